@@ -4,7 +4,6 @@
 
 ghost use Rattle.std.specs.Prelude.{◌≡◌, ◌++◌, [], ◌∷◌, IfOk};
 ghost use Rattle.hm_code_bytes.specs.Bytes.{all_halves, code_bytes, half_bytes, word_bytes};
-ghost use Rattle.hm_code_bytes.specs.Codes.{IsPlain};
 ghost use Rattle.hm_isa.specs.Code.{halfwords, two_halves};
 
 pub mod rows;
@@ -14,7 +13,7 @@ use hm_base::OutOfMemory;
 use hm_enc16::encode16;
 use hm_enc32::encode32;
 use hm_encv::encodev;
-use hm_isa::{Instr, width};
+use hm_isa::{ByWidth, Instr, by_width};
 
 /// The bytes of a code: two or four.
 pub type Code = ArrayVec<u8, 4>;
@@ -52,26 +51,14 @@ fn wide(word: u32) -> Code
     out
 }
 
-/// The bytes of the code of an instruction that is no vector row.
-fn plain_code(i: &Instr) -> Code
-    requires plain { IsPlain i.now }
-    ensures bytes { result.items ≡ code_bytes i.now }
-{
-    if width(i) == 2 {
-        narrow(encode16(i))
-    } else {
-        wide(encode32(i))
-    }
-}
-
 /// The bytes of the code of an instruction: each halfword with its low byte first.
 pub fn code_bytes(i: &Instr) -> Code
     ensures bytes { result.items ≡ code_bytes i.now }
 {
-    match i {
-        Instr::Scalar(_row) => plain_code(i),
-        Instr::Branch(_row) => plain_code(i),
-        Instr::Vector(v) => wide(encodev(v)),
+    match by_width(i) {
+        ByWidth::Narrow(_) => narrow(encode16(i)),
+        ByWidth::Wide(_) => wide(encode32(i)),
+        ByWidth::Vector(v) => wide(encodev(&v)),
     }
 }
 

@@ -10,14 +10,15 @@ use Rattle.hm_isa.specs.contracts.Branch as branch_
 use Rattle.hm_isa.specs.declared.Instr.{Instr}
 use Rattle.hm_isa.specs.declared.Instr.TheVariants as instr
 use Rattle.hm_isa.specs.contracts.Instr as instr_
-use Rattle.hm_isa.specs.Code.{halfwords, scalar_halves, branch_halves}
+use Rattle.hm_isa.specs.Code.{halfwords}
 use Rattle.hm_layout.proofs.Coded.{Coded}
 use Rattle.hm_layout.proofs.Tables.{of_table, ◌▹◌}
 use Rattle.hm_layout.proofs.Lengths.{long_code}
 use Rattle.hm_codes.specs.Listing.{half_at, HalvesStand, Stands, is_long, IsFetched}
 use Rattle.hm_codes.proofs.Vectors.{coded_vector}
 use Rattle.hm_codes.proofs.Widths.{code_length, first_of, joined, lengths_of, long_length, rejoined}
-use Rattle.hm_codes.proofs.Tables.{branch_halves_are, branch_table, coded_branch, coded_scalar, scalar_halves_are, scalar_table}
+use Rattle.hm_codes.proofs.Tables.{branch_halves, branch_halves_are, branch_table, coded_branch, coded_scalar, scalar_halves, scalar_halves_are}
+use Rattle.hm_codes.proofs.Tables.{scalar_table}
 
 abbrev pub coded_instr : Coded Instr
 coded_instr =

@@ -28,18 +28,17 @@ ghost use Rattle.hm_isa.specs.declared.narrow.S21.{S21};
 ghost use Rattle.hm_isa.specs.declared.narrow.S23.{S23};
 ghost use Rattle.hm_isa.specs.declared.narrow.S24.{S24};
 ghost use Rattle.hm_isa.specs.declared.narrow.S25.{S25};
-ghost use Rattle.hm_isa.specs.declared.Scalar.{Scalar};
-ghost use Rattle.hm_isa.specs.declared.Branch.{Branch};
+ghost use Rattle.hm_isa.specs.declared.widths.NarrowRow.{NarrowRow};
 ghost use Rattle.hm_isa.specs.Rules.{listed_in, keeps_list, keeps_it};
 ghost use Rattle.hm_isa.specs.Code.{code_s1, code_s2, code_s3, code_s4, logic_base, code_s5, code_s6, code_s7, code_s8, code_s9, code_s10, code_s11, code_s12};
 ghost use Rattle.hm_isa.specs.Code.{code_s13, code_s14, access_base, code_s15, code_s16, code_s17, code_s18, code_s19, code_s20, code_s21, code_s23, code_s24};
-ghost use Rattle.hm_isa.specs.Code.{code_s25, scalar_halves, branch_halves};
+ghost use Rattle.hm_isa.specs.Code.{code_s25, halfwords, narrow_code};
 
 use hm_isa::{
     AccessName, Always, BaseName, Below, Branch, ByteName, Conditional, ExtendName, HintName,
-    JumpName, ListName, LogicName, MaskingName, PlainName, S1, S2, S3, S4, S5, S6, S7, S8, S9, S10,
-    S11, S12, S13, S14, S15, S16, S17, S18, S19, S20, S21, S23, S24, S25, Scalar, ShiftName,
-    SumName, SwapName, WordName, ZeroName,
+    Instr, JumpName, ListName, LogicName, MaskingName, PlainName, S1, S2, S3, S4, S5, S6, S7, S8,
+    S9, S10, S11, S12, S13, S14, S15, S16, S17, S18, S19, S20, S21, S23, S24, S25, Scalar,
+    ShiftName, SumName, SwapName, WordName, ZeroName,
 };
 
 /// `lsls`, `lsrs`, `asrs rd,rm,#i`
@@ -552,90 +551,95 @@ fn decode_s25(h: u16) -> Option<S25>
     }))
 }
 
-/// The instruction of the rows S1 to S21 whose code is h.
-pub fn find_scalar(h: u16) -> Option<Scalar>
-    ensures found { IfSome result (λ s. scalar_halves s ≡ h ∷ []) }
-    ensures none { IfNone result ((s : Scalar) → scalar_halves s ≡ h ∷ [] → ⊥) }
+/// The branch whose code is h, or None where none has it.
+fn find_branch(h: u16) -> Option<Instr>
+    ensures found { IfSome result (λ i. halfwords i ≡ h ∷ []) }
+    ensures no_s23 { IfNone result ((r : S23) → code_s23 r ≡ h → ⊥) }
+    ensures no_s24 { IfNone result ((r : S24) → code_s24 r ≡ h → ⊥) }
+    ensures no_s25 { IfNone result ((r : S25) → code_s25 r ≡ h → ⊥) }
 {
-    if let Some(r) = decode_s1(h) {
-        return Some(Scalar::S1(r));
+    if let Some(r) = decode_s23(h) {
+        return Some(Instr::Branch(Branch::S23(r)));
     }
-    if let Some(r) = decode_s2(h) {
-        return Some(Scalar::S2(r));
+    if let Some(r) = decode_s24(h) {
+        return Some(Instr::Branch(Branch::S24(r)));
     }
-    if let Some(r) = decode_s3(h) {
-        return Some(Scalar::S3(r));
-    }
-    if let Some(r) = decode_s4(h) {
-        return Some(Scalar::S4(r));
-    }
-    if let Some(r) = decode_s5(h) {
-        return Some(Scalar::S5(r));
-    }
-    if let Some(r) = decode_s6(h) {
-        return Some(Scalar::S6(r));
-    }
-    if let Some(r) = decode_s7(h) {
-        return Some(Scalar::S7(r));
-    }
-    if let Some(r) = decode_s8(h) {
-        return Some(Scalar::S8(r));
-    }
-    if let Some(r) = decode_s9(h) {
-        return Some(Scalar::S9(r));
-    }
-    if let Some(r) = decode_s10(h) {
-        return Some(Scalar::S10(r));
-    }
-    if let Some(r) = decode_s11(h) {
-        return Some(Scalar::S11(r));
-    }
-    if let Some(r) = decode_s12(h) {
-        return Some(Scalar::S12(r));
-    }
-    if let Some(r) = decode_s13(h) {
-        return Some(Scalar::S13(r));
-    }
-    if let Some(r) = decode_s14(h) {
-        return Some(Scalar::S14(r));
-    }
-    if let Some(r) = decode_s15(h) {
-        return Some(Scalar::S15(r));
-    }
-    if let Some(r) = decode_s16(h) {
-        return Some(Scalar::S16(r));
-    }
-    if let Some(r) = decode_s17(h) {
-        return Some(Scalar::S17(r));
-    }
-    if let Some(r) = decode_s18(h) {
-        return Some(Scalar::S18(r));
-    }
-    if let Some(r) = decode_s19(h) {
-        return Some(Scalar::S19(r));
-    }
-    if let Some(r) = decode_s20(h) {
-        return Some(Scalar::S20(r));
-    }
-    if let Some(r) = decode_s21(h) {
-        return Some(Scalar::S21(r));
+    if let Some(r) = decode_s25(h) {
+        return Some(Instr::Branch(Branch::S25(r)));
     }
     None
 }
 
-/// The branch whose code is h.
-pub fn find_branch(h: u16) -> Option<Branch>
-    ensures found { IfSome result (λ b. branch_halves b ≡ h ∷ []) }
-    ensures none { IfNone result ((b : Branch) → branch_halves b ≡ h ∷ [] → ⊥) }
+/// The instruction whose code is h, or None where none has it.
+pub fn find(h: u16) -> Option<Instr>
+    ensures found { IfSome result (λ i. halfwords i ≡ h ∷ []) }
+    ensures none { IfNone result ((r : NarrowRow) → narrow_code r ≡ h → ⊥) }
 {
-    if let Some(r) = decode_s23(h) {
-        return Some(Branch::S23(r));
+    if let Some(r) = decode_s1(h) {
+        return Some(Instr::Scalar(Scalar::S1(r)));
     }
-    if let Some(r) = decode_s24(h) {
-        return Some(Branch::S24(r));
+    if let Some(r) = decode_s2(h) {
+        return Some(Instr::Scalar(Scalar::S2(r)));
     }
-    if let Some(r) = decode_s25(h) {
-        return Some(Branch::S25(r));
+    if let Some(r) = decode_s3(h) {
+        return Some(Instr::Scalar(Scalar::S3(r)));
+    }
+    if let Some(r) = decode_s4(h) {
+        return Some(Instr::Scalar(Scalar::S4(r)));
+    }
+    if let Some(r) = decode_s5(h) {
+        return Some(Instr::Scalar(Scalar::S5(r)));
+    }
+    if let Some(r) = decode_s6(h) {
+        return Some(Instr::Scalar(Scalar::S6(r)));
+    }
+    if let Some(r) = decode_s7(h) {
+        return Some(Instr::Scalar(Scalar::S7(r)));
+    }
+    if let Some(r) = decode_s8(h) {
+        return Some(Instr::Scalar(Scalar::S8(r)));
+    }
+    if let Some(r) = decode_s9(h) {
+        return Some(Instr::Scalar(Scalar::S9(r)));
+    }
+    if let Some(r) = decode_s10(h) {
+        return Some(Instr::Scalar(Scalar::S10(r)));
+    }
+    if let Some(r) = decode_s11(h) {
+        return Some(Instr::Scalar(Scalar::S11(r)));
+    }
+    if let Some(r) = decode_s12(h) {
+        return Some(Instr::Scalar(Scalar::S12(r)));
+    }
+    if let Some(r) = decode_s13(h) {
+        return Some(Instr::Scalar(Scalar::S13(r)));
+    }
+    if let Some(r) = decode_s14(h) {
+        return Some(Instr::Scalar(Scalar::S14(r)));
+    }
+    if let Some(r) = decode_s15(h) {
+        return Some(Instr::Scalar(Scalar::S15(r)));
+    }
+    if let Some(r) = decode_s16(h) {
+        return Some(Instr::Scalar(Scalar::S16(r)));
+    }
+    if let Some(r) = decode_s17(h) {
+        return Some(Instr::Scalar(Scalar::S17(r)));
+    }
+    if let Some(r) = decode_s18(h) {
+        return Some(Instr::Scalar(Scalar::S18(r)));
+    }
+    if let Some(r) = decode_s19(h) {
+        return Some(Instr::Scalar(Scalar::S19(r)));
+    }
+    if let Some(r) = decode_s20(h) {
+        return Some(Instr::Scalar(Scalar::S20(r)));
+    }
+    if let Some(r) = decode_s21(h) {
+        return Some(Instr::Scalar(Scalar::S21(r)));
+    }
+    if let Some(i) = find_branch(h) {
+        return Some(i);
     }
     None
 }

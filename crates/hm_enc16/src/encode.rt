@@ -1,15 +1,15 @@
 //! The rows of 16-bit codes, written.
 
-ghost use Rattle.std.specs.Prelude.{◌≡◌, length, [], ◌∷◌};
+ghost use Rattle.std.specs.Prelude.{◌≡◌};
 ghost use Rattle.hm_isa.specs.Code.{shift_base, sum_base, byte_base, logic_base, address_base, stack_sum_base, extend_base, swap_base, access_base, plain_base};
 ghost use Rattle.hm_isa.specs.Code.{word_base, list_base, masking_base, hint_base, jump_base, zero_base, code_s1, code_s2, code_s3, code_s4, code_s5};
 ghost use Rattle.hm_isa.specs.Code.{code_s6, code_s7, code_s8, code_s9, code_s10, code_s11, code_s12, code_s13, code_s14, code_s15, code_s16};
-ghost use Rattle.hm_isa.specs.Code.{code_s17, code_s18, code_s19, code_s20, code_s21, code_s23, code_s24, code_s25, scalar_halves, branch_halves};
+ghost use Rattle.hm_isa.specs.Code.{code_s17, code_s18, code_s19, code_s20, code_s21, code_s23, code_s24, code_s25, narrow_code};
 
 use hm_isa::{
-    AccessName, BaseName, Branch, ByteName, ExtendName, HintName, JumpName, ListName, LogicName,
-    MaskingName, PlainName, S1, S2, S3, S4, S5, S6, S7, S8, S9, S10, S11, S12, S13, S14, S15, S16,
-    S17, S18, S19, S20, S21, S23, S24, S25, Scalar, ShiftName, SumName, SwapName, WordName,
+    AccessName, BaseName, ByteName, ExtendName, HintName, JumpName, ListName, LogicName,
+    MaskingName, NarrowRow, PlainName, S1, S2, S3, S4, S5, S6, S7, S8, S9, S10, S11, S12, S13, S14,
+    S15, S16, S17, S18, S19, S20, S21, S23, S24, S25, ShiftName, SumName, SwapName, WordName,
     ZeroName,
 };
 
@@ -339,50 +339,34 @@ fn encode_s25(r: &S25) -> u16
     }
 }
 
-/// The code of an instruction of the rows S1 to S21.
-pub fn scalar_code(s: &Scalar) -> u16
-    requires { length (scalar_halves s.now) ≡ 1 }
-    ensures { scalar_halves s.now ≡ result ∷ [] }
+/// The code of a row of one halfword.
+pub fn narrow_code(r: &NarrowRow) -> u16
+    ensures { result ≡ narrow_code r.now }
 {
-    match s {
-        Scalar::S1(r) => encode_s1(r),
-        Scalar::S2(r) => encode_s2(r),
-        Scalar::S3(r) => encode_s3(r),
-        Scalar::S4(r) => encode_s4(r),
-        Scalar::S5(r) => encode_s5(r),
-        Scalar::S6(r) => encode_s6(r),
-        Scalar::S7(r) => encode_s7(r),
-        Scalar::S8(r) => encode_s8(r),
-        Scalar::S9(r) => encode_s9(r),
-        Scalar::S10(r) => encode_s10(r),
-        Scalar::S11(r) => encode_s11(r),
-        Scalar::S12(r) => encode_s12(r),
-        Scalar::S13(r) => encode_s13(r),
-        Scalar::S14(r) => encode_s14(r),
-        Scalar::S15(r) => encode_s15(r),
-        Scalar::S16(r) => encode_s16(r),
-        Scalar::S17(r) => encode_s17(r),
-        Scalar::S18(r) => encode_s18(r),
-        Scalar::S19(r) => encode_s19(r),
-        Scalar::S20(r) => encode_s20(r),
-        Scalar::S21(r) => encode_s21(r),
-        Scalar::T1(_) | Scalar::T2(_) | Scalar::T3(_) | Scalar::T4(_) => unreachable!(),
-        Scalar::T5(_) | Scalar::T6(_) | Scalar::T7(_) | Scalar::T8(_) => unreachable!(),
-        Scalar::T9(_) | Scalar::T10(_) | Scalar::T11(_) | Scalar::T12(_) => unreachable!(),
-        Scalar::T13(_) | Scalar::T14(_) | Scalar::T15(_) | Scalar::T18(_) => unreachable!(),
-        Scalar::T19(_) | Scalar::T20(_) | Scalar::T21(_) | Scalar::T22(_) => unreachable!(),
-    }
-}
-
-/// The code of a branch of the rows S23 to S25.
-pub fn branch_code(b: &Branch) -> u16
-    requires { length (branch_halves b.now) ≡ 1 }
-    ensures { branch_halves b.now ≡ result ∷ [] }
-{
-    match b {
-        Branch::S23(r) => encode_s23(r),
-        Branch::S24(r) => encode_s24(r),
-        Branch::S25(r) => encode_s25(r),
-        _ => unreachable!(),
+    match r {
+        NarrowRow::S1(r) => encode_s1(r),
+        NarrowRow::S2(r) => encode_s2(r),
+        NarrowRow::S3(r) => encode_s3(r),
+        NarrowRow::S4(r) => encode_s4(r),
+        NarrowRow::S5(r) => encode_s5(r),
+        NarrowRow::S6(r) => encode_s6(r),
+        NarrowRow::S7(r) => encode_s7(r),
+        NarrowRow::S8(r) => encode_s8(r),
+        NarrowRow::S9(r) => encode_s9(r),
+        NarrowRow::S10(r) => encode_s10(r),
+        NarrowRow::S11(r) => encode_s11(r),
+        NarrowRow::S12(r) => encode_s12(r),
+        NarrowRow::S13(r) => encode_s13(r),
+        NarrowRow::S14(r) => encode_s14(r),
+        NarrowRow::S15(r) => encode_s15(r),
+        NarrowRow::S16(r) => encode_s16(r),
+        NarrowRow::S17(r) => encode_s17(r),
+        NarrowRow::S18(r) => encode_s18(r),
+        NarrowRow::S19(r) => encode_s19(r),
+        NarrowRow::S20(r) => encode_s20(r),
+        NarrowRow::S21(r) => encode_s21(r),
+        NarrowRow::S23(r) => encode_s23(r),
+        NarrowRow::S24(r) => encode_s24(r),
+        NarrowRow::S25(r) => encode_s25(r),
     }
 }

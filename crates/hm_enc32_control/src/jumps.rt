@@ -1,6 +1,6 @@
 //! The rows of branches, read and written.
 
-ghost use Rattle.std.specs.Prelude.{◌≡◌, ◌<◌, ◌+◌, ◌*◌, ◌/◌, ◌%◌, IfSome, IfNone, length};
+ghost use Rattle.std.specs.Prelude.{◌≡◌, ◌<◌, ◌+◌, ◌*◌, ◌/◌, ◌%◌, IfSome, IfNone};
 ghost use Rattle.hm_isa.specs.declared.jumps.WideConditional.{WideConditional};
 ghost use Rattle.hm_isa.specs.declared.jumps.WideAlways.{WideAlways};
 ghost use Rattle.hm_isa.specs.declared.jumps.T16.{T16};
@@ -11,14 +11,13 @@ ghost use Rattle.hm_isa.specs.declared.jumps.Dlstp.{Dlstp};
 ghost use Rattle.hm_isa.specs.declared.jumps.Wlstp.{Wlstp};
 ghost use Rattle.hm_isa.specs.declared.jumps.LoopEnd.{LoopEnd};
 ghost use Rattle.hm_isa.specs.declared.jumps.T23.{T23};
-ghost use Rattle.hm_isa.specs.declared.Branch.{Branch};
 ghost use Rattle.hm_isa.specs.JumpCodes.{code_wide_conditional, wide_branch_base, code_wide_always, code_t16, table_base, code_t17, label_field, code_dls};
 ghost use Rattle.hm_isa.specs.JumpCodes.{code_wls, code_dlstp, code_wlstp, loop_end_base, code_loop_end, code_t23};
-ghost use Rattle.hm_isa.specs.Code.{branch_halves, two_halves};
+ghost use Rattle.hm_layout.specs.Wide.{HasWord};
 
 use hm_code_fields::{bits, is_general};
 use hm_isa::{
-    Below, Branch, Dls, Dlstp, LoopEnd, LoopEndName, T16, T17, T23, TableName, WideAlways,
+    Below, Branch, Dls, Dlstp, Instr, LoopEnd, LoopEndName, T16, T17, T23, TableName, WideAlways,
     WideBranchName, WideConditional, Wls, Wlstp,
 };
 
@@ -238,18 +237,20 @@ fn decode_t23(w: u32) -> Option<T23>
 
 /// The branch of the rows T16, T17 and T23 whose code is w, with the first halfword in bits 31 to 16, or None exactly where none of them
 /// has it: DDI0553, "T32 instruction set encoding", the 32-bit codes.
-pub fn find_branch(w: u32) -> Option<Branch>
-    ensures found { IfSome result (λ b. branch_halves b ≡ two_halves w) }
-    ensures none { IfNone result ((b : Branch) → branch_halves b ≡ two_halves w → ⊥) }
+pub fn find_branch(w: u32) -> Option<Instr>
+    ensures found { IfSome result (λ i. HasWord i w) }
+    ensures no_t16 { IfNone result ((r : T16) → code_t16 r ≡ w → ⊥) }
+    ensures no_t17 { IfNone result ((r : T17) → code_t17 r ≡ w → ⊥) }
+    ensures no_t23 { IfNone result ((r : T23) → code_t23 r ≡ w → ⊥) }
 {
     if let Some(r) = decode_t16(w) {
-        return Some(Branch::T16(r));
+        return Some(Instr::Branch(Branch::T16(r)));
     }
     if let Some(r) = decode_t17(w) {
-        return Some(Branch::T17(r));
+        return Some(Instr::Branch(Branch::T17(r)));
     }
     if let Some(r) = decode_t23(w) {
-        return Some(Branch::T23(r));
+        return Some(Instr::Branch(Branch::T23(r)));
     }
     None
 }
@@ -289,9 +290,9 @@ fn encode_wide_always(r: &WideAlways) -> u32
         + r.i11.get()
 }
 
-/// The code of a wide branch.
-fn encode_t16(r: &T16) -> u32
-    ensures { result ≡ code_t16 r.now }
+/// The code of a wide branch, with the first halfword in bits 31 to 16.
+pub fn encode_t16(r: &T16) -> u32
+    ensures value { result ≡ code_t16 r.now }
 {
     match r {
         T16::Conditional(r) => encode_wide_conditional(r),
@@ -309,9 +310,9 @@ pub fn base_of_table(name: TableName) -> u32
     }
 }
 
-/// The code of `tbb`, `tbh`.
-fn encode_t17(r: &T17) -> u32
-    ensures { result ≡ code_t17 r.now }
+/// The code of `tbb`, `tbh`, with the first halfword in bits 31 to 16.
+pub fn encode_t17(r: &T17) -> u32
+    ensures value { result ≡ code_t17 r.now }
 {
     base_of_table(r.name) + (r.n.get() << 16) + r.m.get()
 }
@@ -340,18 +341,5 @@ pub fn encode_t23(r: &T23) -> u32
         }
         T23::End(r) => base_of_loop_end(r.name) + label_field(r.v.get()),
         T23::Lctp => 0xf00f_e001,
-    }
-}
-
-/// The code of an instruction of the rows T16, T17 and T23, with the first halfword in bits 31 to 16.
-pub fn branch_code(b: &Branch) -> u32
-    requires { length (branch_halves b.now) ≡ 2 }
-    ensures code { branch_halves b.now ≡ two_halves result }
-{
-    match b {
-        Branch::T16(r) => encode_t16(r),
-        Branch::T17(r) => encode_t17(r),
-        Branch::T23(r) => encode_t23(r),
-        _ => unreachable!(),
     }
 }

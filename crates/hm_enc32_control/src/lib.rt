@@ -6,7 +6,8 @@ mod jumps;
 mod system;
 
 pub use jumps::{
-    base_of_loop_end, base_of_table, base_of_wide_branch, branch_code, encode_t23, find_branch,
+    base_of_loop_end, base_of_table, base_of_wide_branch, encode_t16, encode_t17, encode_t23,
+    find_branch,
 };
 pub use system::{
     base_of_barrier, base_of_lane_move, base_of_read, base_of_system_move, base_of_written,

@@ -16,12 +16,12 @@ ghost use Rattle.hm_isa.specs.declared.system.T22.{T22};
 ghost use Rattle.hm_isa.specs.Rules.{is_system_move};
 ghost use Rattle.hm_isa.specs.SystemCodes.{read_base, code_mrs, written_base, code_msr, code_t18, barrier_base, code_barrier, code_t19, system_move_base};
 ghost use Rattle.hm_isa.specs.SystemCodes.{code_t21, lane_move_base, code_t22};
-ghost use Rattle.hm_isa.specs.Code.{scalar_halves, two_halves};
+ghost use Rattle.hm_layout.specs.Wide.{HasWord};
 
 use hm_code_fields::{bits, is_general};
 use hm_isa::{
-    Barrier, BarrierName, Below, LaneMoveName, Mrs, Msr, ReadName, Scalar, SystemMoveName, T18,
-    T19, T21, T22, WrittenName,
+    Barrier, BarrierName, Below, Instr, LaneMoveName, Mrs, Msr, ReadName, Scalar, SystemMoveName,
+    T18, T19, T21, T22, WrittenName,
 };
 
 /// The register of `mrs` whose code without the other field is this.
@@ -224,24 +224,24 @@ fn decode_t22(w: u32) -> Option<T22>
 
 /// The instruction of the rows T18, T19, T21 and T22 whose code is w, with the first halfword in bits 31 to 16, or None exactly where none of them
 /// has it: DDI0553, "T32 instruction set encoding", the 32-bit codes.
-pub fn find_system(w: u32) -> Option<Scalar>
-    ensures found { IfSome result (λ s. scalar_halves s ≡ two_halves w) }
+pub fn find_system(w: u32) -> Option<Instr>
+    ensures found { IfSome result (λ i. HasWord i w) }
     ensures no_t18 { IfNone result ((r : T18) → code_t18 r ≡ w → ⊥) }
     ensures no_t19 { IfNone result ((r : T19) → code_t19 r ≡ w → ⊥) }
     ensures no_t21 { IfNone result ((r : T21) → code_t21 r ≡ w → ⊥) }
     ensures no_t22 { IfNone result ((r : T22) → code_t22 r ≡ w → ⊥) }
 {
     if let Some(r) = decode_t18(w) {
-        return Some(Scalar::T18(r));
+        return Some(Instr::Scalar(Scalar::T18(r)));
     }
     if let Some(r) = decode_t19(w) {
-        return Some(Scalar::T19(r));
+        return Some(Instr::Scalar(Scalar::T19(r)));
     }
     if let Some(r) = decode_t21(w) {
-        return Some(Scalar::T21(r));
+        return Some(Instr::Scalar(Scalar::T21(r)));
     }
     if let Some(r) = decode_t22(w) {
-        return Some(Scalar::T22(r));
+        return Some(Instr::Scalar(Scalar::T22(r)));
     }
     None
 }

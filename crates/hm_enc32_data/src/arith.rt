@@ -19,11 +19,11 @@ ghost use Rattle.hm_isa.specs.declared.arith.T20.{T20};
 ghost use Rattle.hm_isa.specs.Rules.{is_accumulated};
 ghost use Rattle.hm_isa.specs.ArithCodes.{wide_shift_base, code_t8, wide_extend_base, code_t9, bits_base, code_t10, operation_base, code_operation};
 ghost use Rattle.hm_isa.specs.ArithCodes.{accumulate_base, code_accumulate, long_product_base, code_long_product, code_t11, select_base, code_t20};
-ghost use Rattle.hm_isa.specs.Code.{scalar_halves, two_halves};
+ghost use Rattle.hm_layout.specs.Wide.{HasWord};
 
 use hm_code_fields::{bits, is_general};
 use hm_isa::{
-    Accumulate, AccumulateName, Below, BitsName, ExtendName, LongProduct, LongProductName,
+    Accumulate, AccumulateName, Below, BitsName, ExtendName, Instr, LongProduct, LongProductName,
     Operation, OperationName, Scalar, SelectName, T8, T9, T10, T11, T20, WideShiftName,
 };
 
@@ -302,8 +302,8 @@ fn decode_t20(w: u32) -> Option<T20>
 
 /// The instruction of the rows T8 to T11 and T20 whose code is w, with the first halfword in bits 31 to 16, or None exactly where none of them
 /// has it: DDI0553, "T32 instruction set encoding", the 32-bit codes.
-pub fn find_arith(w: u32) -> Option<Scalar>
-    ensures found { IfSome result (λ s. scalar_halves s ≡ two_halves w) }
+pub fn find_arith(w: u32) -> Option<Instr>
+    ensures found { IfSome result (λ i. HasWord i w) }
     ensures no_t8 { IfNone result ((r : T8) → code_t8 r ≡ w → ⊥) }
     ensures no_t9 { IfNone result ((r : T9) → code_t9 r ≡ w → ⊥) }
     ensures no_t10 { IfNone result ((r : T10) → code_t10 r ≡ w → ⊥) }
@@ -311,19 +311,19 @@ pub fn find_arith(w: u32) -> Option<Scalar>
     ensures no_t20 { IfNone result ((r : T20) → code_t20 r ≡ w → ⊥) }
 {
     if let Some(r) = decode_t8(w) {
-        return Some(Scalar::T8(r));
+        return Some(Instr::Scalar(Scalar::T8(r)));
     }
     if let Some(r) = decode_t9(w) {
-        return Some(Scalar::T9(r));
+        return Some(Instr::Scalar(Scalar::T9(r)));
     }
     if let Some(r) = decode_t10(w) {
-        return Some(Scalar::T10(r));
+        return Some(Instr::Scalar(Scalar::T10(r)));
     }
     if let Some(r) = decode_t11(w) {
-        return Some(Scalar::T11(r));
+        return Some(Instr::Scalar(Scalar::T11(r)));
     }
     if let Some(r) = decode_t20(w) {
-        return Some(Scalar::T20(r));
+        return Some(Instr::Scalar(Scalar::T20(r)));
     }
     None
 }

@@ -8,12 +8,12 @@ ghost use Rattle.hm_isa.specs.declared.data.T3.{T3};
 ghost use Rattle.hm_isa.specs.declared.data.T4.{T4};
 ghost use Rattle.hm_isa.specs.DataRules.{is_constant, is_constant_row, is_first, is_result, is_shifted_row, is_stack_move, is_wide_sum};
 ghost use Rattle.hm_isa.specs.DataCodes.{data_operation, code_t1, code_t2, code_t3, code_t4, code_t5, code_t6, code_t7};
-ghost use Rattle.hm_isa.specs.Code.{scalar_halves, two_halves};
+ghost use Rattle.hm_layout.specs.Wide.{HasWord};
 ghost use Rattle.hm_enc32_data.specs.DataRows.{IsNoData};
 
 use crate::decode_fields::{decode_t5, decode_t6, decode_t7};
 use hm_code_fields::{bits, is_general};
-use hm_isa::{Below, DataName, HalfName, Scalar, SumName, T1, T2, T3, T4};
+use hm_isa::{Below, DataName, HalfName, Instr, Scalar, SumName, T1, T2, T3, T4};
 
 /// The operation of the row T1 or T2 with this base whose code without its other fields is `rest`.
 fn data_name(base: u32, rest: u32) -> Option<DataName>
@@ -231,30 +231,30 @@ fn decode_t4(w: u32) -> Option<T4>
 
 /// The instruction of the rows T1 to T7 whose code is w, with the first halfword in bits 31 to 16, or None exactly where none of them
 /// has it: DDI0553, "T32 instruction set encoding", the 32-bit codes.
-pub fn find_data(w: u32) -> Option<Scalar>
-    ensures found { IfSome result (λ s. scalar_halves s ≡ two_halves w) }
+pub fn find_data(w: u32) -> Option<Instr>
+    ensures found { IfSome result (λ i. HasWord i w) }
     ensures none { IfNone result (IsNoData w) }
 {
     if let Some(r) = decode_t1(w) {
-        return Some(Scalar::T1(r));
+        return Some(Instr::Scalar(Scalar::T1(r)));
     }
     if let Some(r) = decode_t2(w) {
-        return Some(Scalar::T2(r));
+        return Some(Instr::Scalar(Scalar::T2(r)));
     }
     if let Some(r) = decode_t3(w) {
-        return Some(Scalar::T3(r));
+        return Some(Instr::Scalar(Scalar::T3(r)));
     }
     if let Some(r) = decode_t4(w) {
-        return Some(Scalar::T4(r));
+        return Some(Instr::Scalar(Scalar::T4(r)));
     }
     if let Some(r) = decode_t5(w) {
-        return Some(Scalar::T5(r));
+        return Some(Instr::Scalar(Scalar::T5(r)));
     }
     if let Some(r) = decode_t6(w) {
-        return Some(Scalar::T6(r));
+        return Some(Instr::Scalar(Scalar::T6(r)));
     }
     if let Some(r) = decode_t7(w) {
-        return Some(Scalar::T7(r));
+        return Some(Instr::Scalar(Scalar::T7(r)));
     }
     None
 }

@@ -13,13 +13,13 @@ ghost use Rattle.hm_isa.specs.declared.wide.T14.{T14};
 ghost use Rattle.hm_isa.specs.declared.wide.T15.{T15};
 ghost use Rattle.hm_isa.specs.Rules.{is_load, is_data, is_indexed, is_pair};
 ghost use Rattle.hm_isa.specs.Code.{wide_access_base, pair_base, code_offset, code_indexed, code_shifted, code_literal, code_t12, code_t13, code_t14, code_t15};
-ghost use Rattle.hm_isa.specs.Code.{scalar_halves, two_halves};
+ghost use Rattle.hm_layout.specs.Wide.{HasWord};
 
 use crate::lists::decode_t14;
 use hm_code_fields::{bits, is_general};
 use hm_isa::{
-    AccessName, Below, Indexed, Literal, Offset, PairName, Scalar, Shifted, StackName, T12, T13,
-    T15,
+    AccessName, Below, Indexed, Instr, Literal, Offset, PairName, Scalar, Shifted, StackName, T12,
+    T13, T15,
 };
 
 /// Whether an operation loads.
@@ -282,24 +282,24 @@ fn decode_t15(w: u32) -> Option<T15>
 
 /// The instruction of the rows T12 to T15 whose code is w, with the first halfword in bits 31 to 16, or None exactly where none of them
 /// has it: DDI0553, "T32 instruction set encoding", the 32-bit codes.
-pub fn find_memory(w: u32) -> Option<Scalar>
-    ensures found { IfSome result (λ s. scalar_halves s ≡ two_halves w) }
+pub fn find_memory(w: u32) -> Option<Instr>
+    ensures found { IfSome result (λ i. HasWord i w) }
     ensures no_t12 { IfNone result ((r : T12) → code_t12 r ≡ w → ⊥) }
     ensures no_t13 { IfNone result ((r : T13) → code_t13 r ≡ w → ⊥) }
     ensures no_t14 { IfNone result ((r : T14) → code_t14 r ≡ w → ⊥) }
     ensures no_t15 { IfNone result ((r : T15) → code_t15 r ≡ w → ⊥) }
 {
     if let Some(r) = decode_t12(w) {
-        return Some(Scalar::T12(r));
+        return Some(Instr::Scalar(Scalar::T12(r)));
     }
     if let Some(r) = decode_t13(w) {
-        return Some(Scalar::T13(r));
+        return Some(Instr::Scalar(Scalar::T13(r)));
     }
     if let Some(r) = decode_t14(w) {
-        return Some(Scalar::T14(r));
+        return Some(Instr::Scalar(Scalar::T14(r)));
     }
     if let Some(r) = decode_t15(w) {
-        return Some(Scalar::T15(r));
+        return Some(Instr::Scalar(Scalar::T15(r)));
     }
     None
 }

@@ -4,7 +4,7 @@ use anyhow::{Context, Result, bail, ensure};
 use hm_enc16::{decode16, encode16};
 use hm_enc32::{decode32, encode32};
 use hm_encv::{decodev, encodev};
-use hm_isa::{Instr, width};
+use hm_isa::{ByWidth, Instr, by_width, width};
 use hm_text::{AsmKind, Labels, TextErr, parse_instr, print_instr, shape};
 use hm_text16::shape16;
 use hm_text32::shape32;
@@ -31,12 +31,10 @@ pub fn instruction(code: u32) -> Result<Option<Instr>> {
 
 /// The code of an instruction.
 pub fn code_of(i: &Instr) -> u32 {
-    if width(i) == 2 {
-        return encode16(i) as u32;
-    }
-    match i {
-        Instr::Scalar(_) | Instr::Branch(_) => encode32(i),
-        Instr::Vector(v) => encodev(v),
+    match by_width(i) {
+        ByWidth::Narrow(_) => encode16(i) as u32,
+        ByWidth::Wide(_) => encode32(i),
+        ByWidth::Vector(v) => encodev(&v),
     }
 }
 

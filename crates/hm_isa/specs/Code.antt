@@ -150,14 +150,16 @@ use Rattle.hm_isa.specs.declared.vectors.ExtremeName.{ExtremeName}
 use Rattle.hm_isa.specs.declared.vectors.ExtremeName.TheVariants as extreme
 use Rattle.hm_isa.specs.declared.vectors.V23.{V23}
 use Rattle.hm_isa.specs.DataCodes.{code_t1, code_t2, code_t3, code_t4, code_t5, code_t6, code_t7}
-use Rattle.hm_isa.specs.declared.Scalar.{Scalar}
-use Rattle.hm_isa.specs.declared.Scalar.TheVariants as scalar
-use Rattle.hm_isa.specs.declared.Branch.{Branch}
-use Rattle.hm_isa.specs.declared.Branch.TheVariants as branch
 use Rattle.hm_isa.specs.declared.Vector.{Vector}
 use Rattle.hm_isa.specs.declared.Vector.TheVariants as vector
 use Rattle.hm_isa.specs.declared.Instr.{Instr}
-use Rattle.hm_isa.specs.declared.Instr.TheVariants as instr
+use Rattle.hm_isa.specs.declared.widths.NarrowRow.{NarrowRow}
+use Rattle.hm_isa.specs.declared.widths.NarrowRow.TheVariants as narrow
+use Rattle.hm_isa.specs.declared.widths.WideRow.{WideRow}
+use Rattle.hm_isa.specs.declared.widths.WideRow.TheVariants as wide
+use Rattle.hm_isa.specs.declared.widths.ByWidth.{ByWidth}
+use Rattle.hm_isa.specs.declared.widths.ByWidth.TheVariants as by
+use Rattle.hm_isa.specs.Widths.{by_width}
 use Rattle.hm_isa.specs.Standing.{◌↑◌}
 use Rattle.hm_isa.specs.JumpCodes.{code_t16, code_t17, code_t23}
 use Rattle.hm_isa.specs.ArithCodes.{code_t8, code_t9, code_t10, code_t11, code_t20}
@@ -771,58 +773,58 @@ one_half c = c ∷ []
 abbrev pub two_halves : ℕ → List ℕ
 two_halves c = c / 65536 ∷ c % 65536 ∷ []
 
--- the halfwords of an instruction of the rows S1 to S21, T1 to T15 and T18 to T22
-abbrev pub scalar_halves : Scalar → List ℕ
-scalar_halves (scalar.S1 r) = one_half (code_s1 r)
-scalar_halves (scalar.S2 r) = one_half (code_s2 r)
-scalar_halves (scalar.S3 r) = one_half (code_s3 r)
-scalar_halves (scalar.S4 r) = one_half (code_s4 r)
-scalar_halves (scalar.S5 r) = one_half (code_s5 r)
-scalar_halves (scalar.S6 r) = one_half (code_s6 r)
-scalar_halves (scalar.S7 r) = one_half (code_s7 r)
-scalar_halves (scalar.S8 r) = one_half (code_s8 r)
-scalar_halves (scalar.S9 r) = one_half (code_s9 r)
-scalar_halves (scalar.S10 r) = one_half (code_s10 r)
-scalar_halves (scalar.S11 r) = one_half (code_s11 r)
-scalar_halves (scalar.S12 r) = one_half (code_s12 r)
-scalar_halves (scalar.S13 r) = one_half (code_s13 r)
-scalar_halves (scalar.S14 r) = one_half (code_s14 r)
-scalar_halves (scalar.S15 r) = one_half (code_s15 r)
-scalar_halves (scalar.S16 r) = one_half (code_s16 r)
-scalar_halves (scalar.S17 r) = one_half (code_s17 r)
-scalar_halves (scalar.S18 r) = one_half (code_s18 r)
-scalar_halves (scalar.S19 r) = one_half (code_s19 r)
-scalar_halves (scalar.S20 r) = one_half (code_s20 r)
-scalar_halves (scalar.S21 r) = one_half (code_s21 r)
-scalar_halves (scalar.T1 r) = two_halves (code_t1 r)
-scalar_halves (scalar.T2 r) = two_halves (code_t2 r)
-scalar_halves (scalar.T3 r) = two_halves (code_t3 r)
-scalar_halves (scalar.T4 r) = two_halves (code_t4 r)
-scalar_halves (scalar.T5 r) = two_halves (code_t5 r)
-scalar_halves (scalar.T6 r) = two_halves (code_t6 r)
-scalar_halves (scalar.T7 r) = two_halves (code_t7 r)
-scalar_halves (scalar.T8 r) = two_halves (code_t8 r)
-scalar_halves (scalar.T9 r) = two_halves (code_t9 r)
-scalar_halves (scalar.T10 r) = two_halves (code_t10 r)
-scalar_halves (scalar.T11 r) = two_halves (code_t11 r)
-scalar_halves (scalar.T12 r) = two_halves (code_t12 r)
-scalar_halves (scalar.T13 r) = two_halves (code_t13 r)
-scalar_halves (scalar.T14 r) = two_halves (code_t14 r)
-scalar_halves (scalar.T15 r) = two_halves (code_t15 r)
-scalar_halves (scalar.T18 r) = two_halves (code_t18 r)
-scalar_halves (scalar.T19 r) = two_halves (code_t19 r)
-scalar_halves (scalar.T20 r) = two_halves (code_t20 r)
-scalar_halves (scalar.T21 r) = two_halves (code_t21 r)
-scalar_halves (scalar.T22 r) = two_halves (code_t22 r)
+-- the code of an instruction of the rows S1 to S25
+abbrev pub narrow_code : NarrowRow → ℕ
+narrow_code (narrow.S1 r) = code_s1 r
+narrow_code (narrow.S2 r) = code_s2 r
+narrow_code (narrow.S3 r) = code_s3 r
+narrow_code (narrow.S4 r) = code_s4 r
+narrow_code (narrow.S5 r) = code_s5 r
+narrow_code (narrow.S6 r) = code_s6 r
+narrow_code (narrow.S7 r) = code_s7 r
+narrow_code (narrow.S8 r) = code_s8 r
+narrow_code (narrow.S9 r) = code_s9 r
+narrow_code (narrow.S10 r) = code_s10 r
+narrow_code (narrow.S11 r) = code_s11 r
+narrow_code (narrow.S12 r) = code_s12 r
+narrow_code (narrow.S13 r) = code_s13 r
+narrow_code (narrow.S14 r) = code_s14 r
+narrow_code (narrow.S15 r) = code_s15 r
+narrow_code (narrow.S16 r) = code_s16 r
+narrow_code (narrow.S17 r) = code_s17 r
+narrow_code (narrow.S18 r) = code_s18 r
+narrow_code (narrow.S19 r) = code_s19 r
+narrow_code (narrow.S20 r) = code_s20 r
+narrow_code (narrow.S21 r) = code_s21 r
+narrow_code (narrow.S23 r) = code_s23 r
+narrow_code (narrow.S24 r) = code_s24 r
+narrow_code (narrow.S25 r) = code_s25 r
 
--- the halfwords of an instruction of the rows S23 to S25, T16, T17 and T23
-abbrev pub branch_halves : Branch → List ℕ
-branch_halves (branch.S23 r) = one_half (code_s23 r)
-branch_halves (branch.S24 r) = one_half (code_s24 r)
-branch_halves (branch.S25 r) = one_half (code_s25 r)
-branch_halves (branch.T16 r) = two_halves (code_t16 r)
-branch_halves (branch.T17 r) = two_halves (code_t17 r)
-branch_halves (branch.T23 r) = two_halves (code_t23 r)
+-- the code of an instruction of the rows T1 to T23, the first halfword in bits 31 to 16
+abbrev pub wide_code : WideRow → ℕ
+wide_code (wide.T1 r) = code_t1 r
+wide_code (wide.T2 r) = code_t2 r
+wide_code (wide.T3 r) = code_t3 r
+wide_code (wide.T4 r) = code_t4 r
+wide_code (wide.T5 r) = code_t5 r
+wide_code (wide.T6 r) = code_t6 r
+wide_code (wide.T7 r) = code_t7 r
+wide_code (wide.T8 r) = code_t8 r
+wide_code (wide.T9 r) = code_t9 r
+wide_code (wide.T10 r) = code_t10 r
+wide_code (wide.T11 r) = code_t11 r
+wide_code (wide.T12 r) = code_t12 r
+wide_code (wide.T13 r) = code_t13 r
+wide_code (wide.T14 r) = code_t14 r
+wide_code (wide.T15 r) = code_t15 r
+wide_code (wide.T16 r) = code_t16 r
+wide_code (wide.T17 r) = code_t17 r
+wide_code (wide.T18 r) = code_t18 r
+wide_code (wide.T19 r) = code_t19 r
+wide_code (wide.T20 r) = code_t20 r
+wide_code (wide.T21 r) = code_t21 r
+wide_code (wide.T22 r) = code_t22 r
+wide_code (wide.T23 r) = code_t23 r
 
 -- the code of an instruction of the rows V1 to V28, the first halfword in bits 31 to 16
 abbrev pub vector_code : Vector → ℕ
@@ -855,8 +857,12 @@ vector_code (vector.V26 r) = code_v26 r
 vector_code (vector.V27 r) = code_v27 r
 vector_code (vector.V28 r) = code_v28 r
 
+-- the halfwords of an instruction by the width of its code
+abbrev pub halves_by_width : ByWidth → List ℕ
+halves_by_width (by.Narrow r) = one_half (narrow_code r)
+halves_by_width (by.Wide r) = two_halves (wide_code r)
+halves_by_width (by.Vector r) = two_halves (vector_code r)
+
 -- the halfwords of an instruction, one or two, as they stand one after another in memory
 abbrev pub halfwords : Instr → List ℕ
-halfwords (instr.Scalar i) = scalar_halves i
-halfwords (instr.Branch i) = branch_halves i
-halfwords (instr.Vector i) = two_halves (vector_code i)
+halfwords i = halves_by_width (by_width i)

@@ -2,7 +2,8 @@
 #![tactic(auto)]
 
 ghost use Rattle.std.specs.Prelude.{◌≡◌, ◌*◌, length};
-ghost use Rattle.hm_isa.specs.Code.{branch_halves, halfwords, scalar_halves};
+ghost use Rattle.hm_isa.specs.Code.{halfwords, halves_by_width};
+ghost use Rattle.hm_isa.specs.Widths.{branch_by_width, scalar_by_width};
 
 mod arith;
 mod data;
@@ -14,6 +15,7 @@ mod narrow;
 mod system;
 mod vectors;
 mod wide;
+mod widths;
 pub mod words;
 
 pub use arith::Accumulate;
@@ -185,6 +187,10 @@ pub use wide::T13;
 pub use wide::T14;
 pub use wide::T15;
 pub use wide::WideListName;
+pub use widths::ByWidth;
+pub use widths::NarrowRow;
+pub use widths::WideRow;
+pub use widths::by_width;
 
 /// An instruction of the scalar rows: neither a branch nor a vector instruction.
 #[derive(Clone, Copy)]
@@ -370,9 +376,9 @@ pub enum Flow {
     Return { value: u32 },
 }
 
-/// How many bytes the code of a scalar instruction has: 2 or 4.
+/// How many bytes the code of a scalar instruction has: 2 or 4. It is asked for in each tick, so without a copy of the row.
 fn scalar_width(i: &Scalar) -> u32
-    ensures { result ≡ 2 * length (scalar_halves i.now) }
+    ensures { result ≡ 2 * length (halves_by_width (scalar_by_width i.now)) }
 {
     match i {
         Scalar::T1(_) | Scalar::T2(_) | Scalar::T3(_) | Scalar::T4(_) | Scalar::T5(_) => 4,
@@ -385,7 +391,7 @@ fn scalar_width(i: &Scalar) -> u32
 
 /// How many bytes the code of a branch has: 2 or 4.
 fn branch_width(i: &Branch) -> u32
-    ensures { result ≡ 2 * length (branch_halves i.now) }
+    ensures { result ≡ 2 * length (halves_by_width (branch_by_width i.now)) }
 {
     match i {
         Branch::S23(_) | Branch::S24(_) | Branch::S25(_) => 2,

@@ -1,20 +1,17 @@
 -- A text is of one table at most.
-use Rattle.std.proofs.Common.{◌≡◌, ℕ, true, false, List, [], ◌∷◌, Option, Some, None, sym, ap, subst, inl, inr, ◌∙◌, arith}
+use Rattle.std.proofs.Common.{◌≡◌, ℕ, true, false, List, [], ◌∷◌, Some, None, sym, ap, subst, inl, inr, ◌∙◌, arith}
 use Rattle.std.proofs.lemmas.Bool.{eqb-true, false≢true}
 use Rattle.hm_isa.specs.declared.Instr.{Instr}
 use Rattle.hm_isa.specs.declared.Instr.TheVariants.{Scalar, Branch, Vector}
 use Rattle.hm_isa.specs.declared.Vector.{Vector as VectorRow}
-use Rattle.hm_isa.specs.Code.{halfwords, vector_code}
+use Rattle.hm_isa.specs.Code.{vector_code}
 use Rattle.hm_text_base.proofs.Steps.{some_is}
 use Rattle.hm_tokens.specs.Lines.{IsLineOf}
 use Rattle.hm_tokens.specs.Ranges.{is_inside, normal, singles}
 use Rattle.hm_tokens.specs.Tokens.{Tok, word, number, mark}
 use Rattle.hm_text16_codes.specs.Codes.{code_in}
-use Rattle.hm_text16_rows.specs.Rows.{tokens_of}
 use Rattle.hm_text16.specs.Texts.{HasTokens}
-use Rattle.hm_text16_codes.proofs.Asked.{halves}
-use Rattle.hm_text16.proofs.Laws.{nearest}
-use Rattle.hm_text16_codes.proofs.Rows.{row_law}
+use Rattle.hm_text16.proofs.Parsing.{no_code, readable}
 use Rattle.hm_textv_rows.specs.Rows as vectors
 use Rattle.hm_textv.proofs.Laws.{answers_law}
 use Rattle.hm_textv_codes.specs.Codes as vector_codes
@@ -28,15 +25,7 @@ use Rattle.hm_text.proofs.WideRows.{wide_named}
 
 -- a row of one halfword has a code, which its text asks for
 narrow_asks : (i : Instr) (t : Tok) (ts : List Tok) → HasTokens i t ts → code_in ts 0 4 ≡ None → ⊥
-narrow_asks i t ts has none =
-    let n = nearest i has.narrow in
-    let same : tokens_of n.near t ≡ ts = rw (n.label, n.tokens) has.tokens in
-    let asks = (row_law n.near n.narrow).asks t 0 4 has.label (omega arith) (omega arith) n.reaches in
-    nothing (code_in ts 0 4) (halfwords n.near) none (subst (λ (x : List Tok). halves (code_in x 0 4) ≡ Some (halfwords n.near)) same asks)
-  where
-    nothing : (o : Option ℕ) (hs : List ℕ) → o ≡ None → halves o ≡ Some hs → ⊥
-    nothing (Some x) hs e f = absurd cc
-    nothing None hs e f = absurd cc
+narrow_asks i t ts has none = let n = readable.near i t ts has in no_code ts 0 4 (omega arith) (omega arith) none n.0 n.1
 
 same_first : (text : List ℕ) (t u : Tok) (ts us : List Tok) → IsLineOf text (t ∷ ts) → IsLineOf text (u ∷ us) → t ≡ u
 same_first text t u ts us l m = ap (λ (x : Tok × List ℕ). x.0) (some_is (t, l.0) (u, m.0) (sym l.1 ∙ m.1))
@@ -61,7 +50,7 @@ narrow_and_vector text i t v n is =
 
 -- a wide row has a mnemonic that no row of one halfword has
 named_line : (text : List ℕ) (i : Instr) (t : Tok) (ts : List Tok) (w : IsWideText text i t) → w.tokens ≡ ts → is_wide_line (normal ts) ≡ true
-named_line text i t ts w same = subst (λ (x : List Tok). is_wide_line (normal x) ≡ true) same (wide_named i t (normal w.tokens) w.has.wide w.has.tokens)
+named_line text i t ts w same = subst (λ (x : List Tok). is_wide_line (normal x) ≡ true) same (wide_named w.has.row t (normal w.tokens) w.has.tokens)
 
 narrow_and_wide : (text : List ℕ) (i j : Instr) (t u : Tok) → IsNarrowText text i t → IsWideText text j u → ⊥
 narrow_and_wide text i j t u n w =

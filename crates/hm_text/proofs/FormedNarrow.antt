@@ -1,16 +1,12 @@
 -- Each row of one halfword has a text of the form.
-use Rattle.std.proofs.Common.{◌≡◌, ℕ, ◌+◌, ◌<◌, Bool, true, false, cond, List, [], ◌∷◌, ◌++◌, length, map, refl, arith}
+use Rattle.std.proofs.Common.{◌≡◌, ℕ, ◌+◌, ◌<◌, Bool, true, false, cond, List, [], ◌∷◌, ◌++◌, map, refl, arith}
 use Rattle.std.specs.Prelude.{codes}
 use Rattle.std.proofs.lemmas.Bool.{false≢true}
 use Rattle.std.proofs.lemmas.Bool.Decides.{nat_tests}
-use Rattle.hm_isa.specs.declared.Branch.{Branch}
-use Rattle.hm_isa.specs.declared.Instr.{Instr}
-use Rattle.hm_isa.specs.declared.Instr.TheVariants as instr
-use Rattle.hm_isa.specs.declared.Scalar.{Scalar}
-use Rattle.hm_isa.specs.declared.Scalar.TheVariants as scalar
 use Rattle.hm_isa.specs.declared.narrow.ListName.{ListName}
 use Rattle.hm_isa.specs.declared.narrow.ListName.TheVariants as list
-use Rattle.hm_isa.specs.Code.{branch_halves, scalar_halves}
+use Rattle.hm_isa.specs.declared.widths.NarrowRow.{NarrowRow}
+use Rattle.hm_isa.specs.declared.widths.NarrowRow.TheVariants.{S20}
 use Rattle.hm_isa.specs.Rules.{keeps_list, listed_in}
 use Rattle.hm_isa.specs.Standing.{◌↑◌}
 use Rattle.hm_tokens.specs.Tokens.{word, number, close_brace, comma, bang, open_brace}
@@ -22,7 +18,6 @@ use Rattle.hm_text_rows.specs.Operands.{bits_of, braced}
 use Rattle.hm_text_rows.specs.Shapes.{braces, listed, r, registers_from}
 use Rattle.hm_text_rows.proofs.Braces.{braces_bits}
 use Rattle.hm_text16_rows.specs.Rows.{list_tokens, tokens_of}
-use Rattle.hm_text16.specs.Texts.{IsNarrow}
 use Rattle.hm_text.proofs.Formed.{Formed, are_operands}
 
 -- LISTS
@@ -62,14 +57,6 @@ formed_list list.Stm x n m e hx hm = record { is = taken_braces m (omega arith) 
 formed_list list.Ldm x n m e hx hm = formed_load (listed_in m n) n m (omega arith) (grind (arith, nat_tests, e))
 
 -- ROWS
-formed_scalar : (i : Scalar) (a : ℕ) → length (scalar_halves i) ≡ 1 → Formed (tokens_of (instr.Scalar i) (number a))
-formed_scalar (scalar.S20 i) a e = formed_list i.name i.x.value i.n.value i.list.value i.row i.x.in_range i.list.in_range
-formed_scalar i a e = grind arith
-
-formed_branch : (i : Branch) (a : ℕ) → length (branch_halves i) ≡ 1 → Formed (tokens_of (instr.Branch i) (number a))
-formed_branch i a e = grind arith
-
-pub formed_narrow : (i : Instr) (a : ℕ) → IsNarrow i → Formed (tokens_of i (number a))
-formed_narrow (instr.Scalar i) a e = formed_scalar i a e
-formed_narrow (instr.Branch i) a e = formed_branch i a e
-formed_narrow (instr.Vector i) a e = absurd (omega (arith, e))
+pub formed_narrow : (i : NarrowRow) (a : ℕ) → Formed (tokens_of i (number a))
+formed_narrow (S20 i) a = formed_list i.name i.x.value i.n.value i.list.value i.row i.x.in_range i.list.in_range
+formed_narrow i a = grind arith

@@ -1,25 +1,27 @@
 -- Texts read in all tables.
-use Rattle.std.proofs.Common.{◌≡◌, ◌⊎◌, ℕ, ◌*◌, ◌≤◌, List, length, Option, Some, None, refl, sym, ap, subst, inl, inr, ◌∙◌, arith}
+use Rattle.std.proofs.Common.{◌≡◌, ◌⊎◌, ℕ, ◌≤◌, List, length, Option, Some, None, refl, sym, ap, subst, inl, inr, ◌∙◌, arith}
 use Rattle.std.specs.Prelude.{IfSome}
 use Rattle.hm_isa.specs.declared.Instr.{Instr}
 use Rattle.hm_isa.specs.declared.Instr.TheVariants.{Scalar, Branch, Vector}
 use Rattle.hm_isa.specs.declared.Vector.{Vector as VectorRow}
-use Rattle.hm_isa.specs.Code.{halfwords}
+use Rattle.hm_isa.specs.declared.widths.ByWidth.TheVariants as by
+use Rattle.hm_isa.specs.declared.widths.NarrowRow.{NarrowRow}
+use Rattle.hm_isa.specs.declared.widths.WideRow.{WideRow}
+use Rattle.hm_isa.specs.Widths.{by_width}
 use Rattle.hm_text_base.proofs.Steps.{some_is}
 use Rattle.hm_tokens.specs.Lines.{IsLineOf}
 use Rattle.hm_tokens.specs.Ranges.{normal}
 use Rattle.hm_tokens.specs.Tokens.{Tok, number}
 use Rattle.hm_tokens.proofs.Ranges.{normal_no_fewer}
 use Rattle.hm_text_rows.specs.Labels.{Reaches}
-use Rattle.hm_text16_rows.specs.Targets as narrow_targets
+use Rattle.hm_text_labels.specs.Texts as with_labels
+use Rattle.hm_text16_rows.specs.Rows as narrow_rows
 use Rattle.hm_text16.specs.Texts as narrow
 use Rattle.hm_text16.proofs.Laws as narrow_laws
-use Rattle.hm_text32_rows.specs.Targets as wide_targets
 use Rattle.hm_text32.specs.Texts as wide
 use Rattle.hm_text32.proofs.Laws as wide_laws
 use Rattle.hm_textv_rows.specs.Rows as vectors
 use Rattle.hm_text.specs.Tables.{IsLongText, IsNarrowText, IsRowAt, IsTextIn, IsVectorText, IsWideText, Seen, label_of, target, width_of}
-use Rattle.hm_text.proofs.Targets.{narrow_label, narrow_target, wide_label, wide_length, wide_target}
 
 abbrev these : List Tok → Option (List Tok)
 these ts = Some ts
@@ -41,26 +43,33 @@ pub record IsTable (Has : Tokens) (w : ℕ) (label : Instr → Tok → Option To
   pub labelled : (i : Instr) (t : Tok) (ts : List Tok) → Has i t ts → label i t ≡ label_of i t
   pub aimed : (i : Instr) (t : Tok) (ts : List Tok) (pc : ℕ) → Has i t ts → goes i pc ≡ target i pc
 
-two_bytes : (n : ℕ) → n ≡ 1 → 2 ≡ 2 * n
-two_bytes n e = omega (arith, e)
+-- the row of an instruction is one, and so the tokens are its
+narrow_is : (r s : NarrowRow) → by.Narrow r ≡ by.Narrow s → r ≡ s
+narrow_is r s e = cc
 
-four_bytes : (n : ℕ) → n ≡ 2 → 4 ≡ 2 * n
-four_bytes n e = omega (arith, e)
+pub narrow_tokens : (i : Instr) (r : NarrowRow) (t : Tok) (ts : List Tok) → by_width i ≡ by.Narrow r → narrow.HasTokens i t ts → narrow_rows.tokens_of r t ≡ ts
+narrow_tokens i r t ts is has = subst (λ (x : NarrowRow). narrow_rows.tokens_of x t ≡ ts) (narrow_is has.row r (sym has.is ∙ is)) has.tokens
 
-pub narrow_table : IsTable narrow.HasTokens 2 narrow.label_of narrow_targets.target
+wide_is : (r s : WideRow) → by.Wide r ≡ by.Wide s → r ≡ s
+wide_is r s e = cc
+
+pub wide_tokens : (i : Instr) (r : WideRow) (t : Tok) (ts : List Tok) → by_width i ≡ by.Wide r → wide.HasTokens i t ts → wide.AreTokens r t ts
+wide_tokens i r t ts is has = subst (λ (x : WideRow). wide.AreTokens x t ts) (wide_is has.row r (sym has.is ∙ is)) has.tokens
+
+pub narrow_table : IsTable narrow.HasTokens 2 narrow.label_of narrow.target_of
 narrow_table = record {
   few = λ i t ts has. narrow_laws.few_tokens i t ts has;
-  width = λ i t ts has. two_bytes (length (halfwords i)) has.narrow;
-  labelled = λ i t ts has. narrow_label i t has.narrow;
-  aimed = λ i t ts pc has. narrow_target i pc has.narrow;
+  width = λ i t ts has. rw has.is refl;
+  labelled = λ i t ts has. rw has.is refl;
+  aimed = λ i t ts pc has. rw has.is refl;
 }
 
-pub wide_table : IsTable wide.HasTokens 4 wide.label_of wide_targets.target
+pub wide_table : IsTable wide.HasTokens 4 wide.label_of wide.target_of
 wide_table = record {
   few = λ i t ts has. wide_laws.few_tokens i t ts has;
-  width = λ i t ts has. four_bytes (length (halfwords i)) (wide_length i has.wide);
-  labelled = λ i t ts has. wide_label i t has.wide;
-  aimed = λ i t ts pc has. wide_target i pc has.wide;
+  width = λ i t ts has. rw has.is refl;
+  labelled = λ i t ts has. rw has.is refl;
+  aimed = λ i t ts pc has. rw has.is refl;
 }
 
 abbrev pub seen_of : Instr → Tok → Seen
@@ -75,7 +84,7 @@ nothing = None
 pub seen_parts : (w : ℕ) (l : Option Tok) (x : Seen) → given (w, l) ≡ given x → (w ≡ x.0) × (l ≡ x.1)
 seen_parts w l x e = let same = some_is (w, l) x e in (ap (λ (s : Seen). s.0) same, ap (λ (s : Seen). s.1) same)
 
-module _ (Has : Tokens) (w : ℕ) (label : Instr → Tok → Option Tok) (goes : Instr → ℕ → Option ℕ) (table : IsTable Has w label goes) (text : List ℕ) where
+module _ {Has : Tokens} {w : ℕ} {label : Instr → Tok → Option Tok} {goes : Instr → ℕ → Option ℕ} (table : IsTable Has w label goes) (text : List ℕ) where
   few : (i : Instr) (t : Tok) (n : IsTextIn Has text i t) → length n.tokens ≤ 40
   few i t n =
       let single = table.few i t (normal n.tokens) n.has in
@@ -116,49 +125,21 @@ module _ (Has : Tokens) (w : ℕ) (label : Instr → Tok → Option Tok) (goes :
   shape_none ts read only i t n = let e = only i t (read_has ts read i t n) in cc
 
   -- rows at an address
-  abbrev pub At : List Tok → ℕ → ℕ → Instr → Type 0
-  At ts pc a i = (t : Tok) × Has i t (normal ts) × Reaches (goes i pc) a
-
-  pub at_found : (ts : List Tok) (pc a : ℕ) (r : Option Instr) → IsLineOf text ts → IfSome r (λ i. At ts pc a i)
+  pub at_found : (ts : List Tok) (pc a : ℕ) (r : Option Instr) → IsLineOf text ts → IfSome r (λ i. with_labels.IsRowAt Has goes (normal ts) pc a i)
       → IfSome r (λ i. (t : Tok) × IsTextIn Has text i t × Reaches (target i pc) a)
   at_found ts pc a (Some i) line is = (
-    is.0,
-    record { tokens = ts; line = line; has = is.1 },
-    subst (λ (o : Option ℕ). Reaches o a) (table.aimed i is.0 (normal ts) pc is.1) is.2,
+    is.label,
+    record { tokens = ts; line = line; has = is.has },
+    subst (λ (o : Option ℕ). Reaches o a) (table.aimed i is.label (normal ts) pc is.has) is.reaches,
   )
   at_found ts pc a None line is = tt
 
-  pub at_only : (ts : List Tok) (pc a : ℕ) (r : Option Instr) → AreRead text (these ts) → ((i : Instr) → At ts pc a i → r ≡ Some i) → (i : Instr) (t : Tok)
+  pub at_only : (ts : List Tok) (pc a : ℕ) (r : Option Instr) → AreRead text (these ts)
+      → ((i : Instr) → with_labels.IsRowAt Has goes (normal ts) pc a i → r ≡ Some i) → (i : Instr) (t : Tok)
       → IsTextIn Has text i t → Reaches (target i pc) a → r ≡ Some i
   at_only ts pc a r read only i t n re =
       let has = read_has ts read i t n in
-      only i (t, has, subst (λ (o : Option ℕ). Reaches o a) (sym (table.aimed i t (normal ts) pc has)) re)
-
--- rows as the readers of tables give them
-pub narrow_at_found : (text : List ℕ) (ts : List Tok) (pc a : ℕ) (r : Option Instr) → IsLineOf text ts → IfSome r (λ i. narrow.IsRowAt (normal ts) pc a i)
-    → IfSome r (λ i. (t : Tok) × IsNarrowText text i t × Reaches (target i pc) a)
-narrow_at_found text ts pc a (Some i) line is =
-    at_found narrow.HasTokens 2 narrow.label_of narrow_targets.target narrow_table text ts pc a (Some i) line (is.label, is.has, is.reaches)
-narrow_at_found text ts pc a None line is = tt
-
-pub narrow_at_only : (text : List ℕ) (ts : List Tok) (pc a : ℕ) (r : Option Instr) → AreRead text (these ts)
-    → ((i : Instr) → narrow.IsRowAt (normal ts) pc a i → r ≡ Some i)
-    → (i : Instr) (t : Tok) → IsNarrowText text i t → Reaches (target i pc) a → r ≡ Some i
-narrow_at_only text ts pc a r read only =
-    at_only narrow.HasTokens 2 narrow.label_of narrow_targets.target narrow_table text ts pc a r read
-    (λ i f. only i (record { label = f.0; has = f.1; reaches = f.2 }))
-
-pub wide_at_found : (text : List ℕ) (ts : List Tok) (pc a : ℕ) (r : Option Instr) → IsLineOf text ts → IfSome r (λ i. wide.IsRowAt (normal ts) pc a i)
-    → IfSome r (λ i. (t : Tok) × IsWideText text i t × Reaches (target i pc) a)
-wide_at_found text ts pc a (Some i) line is =
-    at_found wide.HasTokens 4 wide.label_of wide_targets.target wide_table text ts pc a (Some i) line (is.label, is.has, is.reaches)
-wide_at_found text ts pc a None line is = tt
-
-pub wide_at_only : (text : List ℕ) (ts : List Tok) (pc a : ℕ) (r : Option Instr) → AreRead text (these ts)
-    → ((i : Instr) → wide.IsRowAt (normal ts) pc a i → r ≡ Some i)
-    → (i : Instr) (t : Tok) → IsWideText text i t → Reaches (target i pc) a → r ≡ Some i
-wide_at_only text ts pc a r read only =
-    at_only wide.HasTokens 4 wide.label_of wide_targets.target wide_table text ts pc a r read (λ i f. only i (record { label = f.0; has = f.1; reaches = f.2 }))
+      only i (record { label = t; has = has; reaches = subst (λ (o : Option ℕ). Reaches o a) (sym (table.aimed i t (normal ts) pc has)) re })
 
 -- VECTOR ROWS
 pub vector_found : (text : List ℕ) (v : VectorRow) → vectors.IsTextOf text v

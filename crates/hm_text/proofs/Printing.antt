@@ -1,133 +1,94 @@
 -- What is printed of an instruction is its text.
-use Rattle.std.proofs.Common.{◌≡◌, ℕ, ◌*◌, Bool, true, false, cond, List, [], ◌∷◌, ◌++◌, length, Option, Some, None, refl, sym, subst, inl, inr, arith}
-use Rattle.std.specs.Prelude.{nat_eq}
+use Rattle.std.proofs.Common.{◌≡◌, ℕ, Bool, true, false, cond, List, [], ◌∷◌, ◌++◌, Option, Some, None, refl, sym, subst, inl, inr}
+use Rattle.hm_codes.proofs.Unique.{unique_code}
 use Rattle.hm_isa.specs.declared.Instr.{Instr}
-use Rattle.hm_isa.specs.declared.Instr.TheVariants.{Scalar, Branch, Vector}
-use Rattle.hm_isa.specs.declared.Branch.{Branch as BranchRow}
-use Rattle.hm_isa.specs.declared.Scalar.{Scalar as ScalarRow}
+use Rattle.hm_isa.specs.declared.Instr.TheVariants.{Vector}
 use Rattle.hm_isa.specs.declared.Vector.{Vector as VectorRow}
-use Rattle.hm_isa.specs.Code.{halfwords}
+use Rattle.hm_isa.specs.declared.widths.ByWidth.TheVariants as by
+use Rattle.hm_isa.specs.declared.widths.NarrowRow.{NarrowRow}
+use Rattle.hm_isa.specs.declared.widths.WideRow.{WideRow}
+use Rattle.hm_isa.specs.Widths.{by_width}
 use Rattle.hm_line.specs.declared.form.Form.TheVariants as forms
 use Rattle.hm_line.specs.Texts.{IsOfForm}
 use Rattle.hm_tokens.specs.Lines.{printed}
+use Rattle.hm_tokens.specs.Ranges.{normal}
 use Rattle.hm_tokens.specs.Tokens.{Tok, number}
-use Rattle.hm_text16_rows.specs.Rows.{has_label, row_tokens}
-use Rattle.hm_text16_rows.specs.Targets.{target}
-use Rattle.hm_text16.specs.Texts.{IsNarrow, text_of}
-use Rattle.hm_text16.specs.Texts as narrow
-use Rattle.hm_text_rows.proofs.Shown.{IsGiven, IsPrintedRow}
-use Rattle.hm_text16.proofs.Laws.{given_target}
-use Rattle.hm_text16_codes.proofs.Rows.{row_law}
-use Rattle.hm_textv_rows.specs.Rows as vectors
-use Rattle.hm_textv.proofs.Laws as vector_laws
-use Rattle.hm_layout.specs.Wide.{IsWide}
 use Rattle.hm_text_rows.specs.Labels.{NamesTarget, printed_with}
+use Rattle.hm_text_rows.proofs.Shown.{IsGiven, IsPrintedRow}
+use Rattle.hm_text_labels.specs.Texts as with_labels
+use Rattle.hm_text16_rows.specs.Rows as narrow_rows
+use Rattle.hm_text16_rows.specs.Targets as narrow_targets
+use Rattle.hm_text16_codes.proofs.Rows as narrow_asked
+use Rattle.hm_text16.specs.Texts as narrow
+use Rattle.hm_text16.proofs.Laws as narrow_laws
 use Rattle.hm_text32_rows.specs.Rows as wide_rows
 use Rattle.hm_text32_rows.specs.Targets as wide_targets
+use Rattle.hm_text32_codes.proofs.Rows as wide_asked
 use Rattle.hm_text32.specs.Texts as wide
 use Rattle.hm_text32.proofs.Laws as wide_laws
-use Rattle.hm_text32_codes.proofs.Rows as wide_asked
-use Rattle.hm_text.specs.Tables.{long_text, printed_text, width_of}
+use Rattle.hm_textv_rows.specs.Rows as vectors
+use Rattle.hm_textv.proofs.Laws as vector_laws
+use Rattle.hm_text.specs.Tables.{HasText, IsTextIn, width_of}
 use Rattle.hm_text.specs.Texts.{HasWidth, IsTextOf}
 use Rattle.hm_text.proofs.Formed.{Formed, formed_text}
 use Rattle.hm_text.proofs.FormedNarrow.{formed_narrow}
-use Rattle.hm_text.proofs.Targets.{lengths, narrow_target, wide_target}
-use Rattle.hm_text.proofs.WideRows.{formed_wide}
 use Rattle.hm_text.proofs.FormedVectors.{formed_vector}
+use Rattle.hm_text.proofs.InTables.{IsTable, Tokens, narrow_table, wide_table}
+use Rattle.hm_text.proofs.WideRows.{formed_wide}
 
 -- the form
-form_of : (b : Bool) (row : List Tok) (o : Option ℕ) → IsPrintedRow b row → IsGiven b o → ((a : ℕ) → Formed (cond b (row ++ number a ∷ []) row))
+printed_form : (b : Bool) (row : List Tok) (o : Option ℕ) → IsPrintedRow b row → IsGiven b o → ((a : ℕ) → Formed (cond b (row ++ number a ∷ []) row))
     → IsOfForm forms.Instruction (printed_with row o)
-form_of true row (Some a) p lt f = formed_text (row ++ number a ∷ []) (printed_with row (Some a)) (p.again a lt) (f a)
-form_of true row None p given f = absurd given
-form_of false row (Some a) p given f = absurd given
-form_of false row None p given f = formed_text row (printed_with row None) p.again (f 0)
+printed_form true row (Some a) p lt f = formed_text (row ++ number a ∷ []) (printed_with row (Some a)) (p.again a lt) (f a)
+printed_form true row None p given f = absurd given
+printed_form false row (Some a) p given f = absurd given
+printed_form false row None p given f = formed_text row (printed_with row None) p.again (f 0)
 
-narrow_form : (i : Instr) (pc : ℕ) (text : List ℕ) → IsNarrow i → text ≡ text_of i (target i pc) → IsOfForm forms.Instruction text
-narrow_form i pc text narrow is =
-    subst (λ (x : List ℕ). IsOfForm forms.Instruction x) (sym is)
-    (form_of (has_label i) (row_tokens i) (target i pc) (row_law i narrow).prints (given_target i pc) (λ a. formed_narrow i a narrow))
+text_form : (b : Bool) (row : List Tok) (o : Option ℕ) (text : List ℕ) → IsPrintedRow b row → IsGiven b o
+    → ((a : ℕ) → Formed (cond b (row ++ number a ∷ []) row)) → text ≡ printed_with row o → IsOfForm forms.Instruction text
+text_form b row o text p given f is = subst (λ (x : List ℕ). IsOfForm forms.Instruction x) (sym is) (printed_form b row o p given f)
 
-pub narrow_printed : (i : Instr) (pc : ℕ) (text : List ℕ) (labels : List ℕ → Option ℕ) → IsNarrow i → text ≡ text_of i (target i pc)
-    → narrow.IsTextOf text pc labels i → IsTextOf text pc labels i
-narrow_printed i pc text labels narrow_ is read = record {
+-- what a table reads of a text all of them read of it
+in_table : {Has : Tokens} {w : ℕ} {label : Instr → Tok → Option Tok} {goes : Instr → ℕ → Option ℕ} → IsTable Has w label goes → (i : Instr) (pc : ℕ)
+    (text : List ℕ) (labels : List ℕ → Option ℕ) → IsOfForm forms.Instruction text → ((t : Tok) → IsTextIn Has text i t → HasText i t text)
+    → with_labels.IsTextOf Has goes text pc labels i → IsTextOf text pc labels i
+in_table table i pc text labels form has read = record {
   label = read.label;
-  row = record { form = narrow_form i pc text narrow_ is; has = inl (record { tokens = read.tokens; line = read.line; has = read.has }) };
-  names = subst (λ (o : Option ℕ). NamesTarget labels read.label o) (narrow_target i pc narrow_) read.names;
+  row = record { form = form; has = has read.label (record { tokens = read.tokens; line = read.line; has = read.has }) };
+  names = subst (λ (o : Option ℕ). NamesTarget labels read.label o) (table.aimed i read.label (normal read.tokens) pc read.has) read.names;
 }
 
--- a row of two halfwords
-wide_form : (i : Instr) (pc : ℕ) (text : List ℕ) → IsWide i → text ≡ wide.text_of i (wide_targets.target i pc) → IsOfForm forms.Instruction text
-wide_form i pc text wide_ is =
-    subst (λ (x : List ℕ). IsOfForm forms.Instruction x) (sym is)
-    (form_of (wide_rows.has_label i) (wide_rows.row_tokens i) (wide_targets.target i pc) (wide_asked.row_law i wide_).prints (wide_laws.given_target i pc)
-    (λ a. formed_wide i a wide_))
+pub narrow_printed : (i : Instr) (r : NarrowRow) (pc : ℕ) (text : List ℕ) → text ≡ narrow.text_of r (narrow_targets.target r pc)
+    → ((labels : List ℕ → Option ℕ) → narrow.IsTextOf text pc labels i) → (labels : List ℕ → Option ℕ) → IsTextOf text pc labels i
+narrow_printed i r pc text is read labels =
+    let form = text_form (narrow_rows.has_label r) (narrow_rows.row_tokens r) (narrow_targets.target r pc) text (narrow_asked.row_law r).prints
+    (narrow_laws.given_target r pc) (λ a. formed_narrow r a) is in
+    in_table narrow_table i pc text labels form (λ t n. inl n) (read labels)
 
-pub wide_printed : (i : Instr) (pc : ℕ) (text : List ℕ) (labels : List ℕ → Option ℕ) → IsWide i → text ≡ wide.text_of i (wide_targets.target i pc)
-    → wide.IsTextOf text pc labels i → IsTextOf text pc labels i
-wide_printed i pc text labels wide_ is read = record {
-  label = read.label;
-  row = record { form = wide_form i pc text wide_ is; has = inr (inl (record { tokens = read.tokens; line = read.line; has = read.has })) };
-  names = subst (λ (o : Option ℕ). NamesTarget labels read.label o) (wide_target i pc wide_) read.names;
-}
+pub wide_printed : (i : Instr) (r : WideRow) (pc : ℕ) (text : List ℕ) → text ≡ wide.text_of r (wide_targets.target r pc)
+    → ((labels : List ℕ → Option ℕ) → wide.IsTextOf text pc labels i) → (labels : List ℕ → Option ℕ) → IsTextOf text pc labels i
+wide_printed i r pc text is read labels =
+    let form = text_form (wide_rows.has_label r) (wide_rows.row_tokens r) (wide_targets.target r pc) text (wide_asked.row_law r).prints
+    (wide_laws.given_target r pc) (λ a. formed_wide r a) is in
+    in_table wide_table i pc text labels form (λ t n. inr (inl n)) (read labels)
 
-pub vector_printed : (v : VectorRow) (pc : ℕ) (text : List ℕ) (labels : List ℕ → Option ℕ) → text ≡ printed (vectors.tokens_of v) → vectors.IsTextOf text v
-    → IsTextOf text pc labels (Vector v)
-vector_printed v pc text labels is read = record {
-  label = number 0;
-  row = record {
-    form = subst (λ (x : List ℕ). IsOfForm forms.Instruction x) (sym is)
-        (formed_text (vectors.tokens_of v) (printed (vectors.tokens_of v)) (vector_laws.row_law v).prints.again (formed_vector v));
-    has = inr (inr read);
-  };
-  names = tt;
-}
+-- an instruction of this width is a vector row
+vector_is : (i : Instr) (v : VectorRow) → by_width i ≡ by.Vector v → Vector v ≡ i
+vector_is i v e = unique_code (Vector v) i (rw e refl)
+
+pub vector_printed : (i : Instr) (v : VectorRow) (pc : ℕ) (text : List ℕ) → by_width i ≡ by.Vector v → text ≡ printed (vectors.tokens_of v)
+    → vectors.IsTextOf text v → (labels : List ℕ → Option ℕ) → IsTextOf text pc labels i
+vector_printed i v pc text e is read labels =
+    let form = formed_text (vectors.tokens_of v) (printed (vectors.tokens_of v)) (vector_laws.row_law v).prints.again (formed_vector v) in
+    let here : IsTextOf text pc labels (Vector v) = record {
+      label = number 0;
+      row = record { form = subst (λ (x : List ℕ). IsOfForm forms.Instruction x) (sym is) form; has = inr (inr read) };
+      names = tt;
+    } in
+    subst (λ (x : Instr). IsTextOf text pc labels x) (vector_is i v e) here
 
 pub width_is : (text : List ℕ) (pc : ℕ) (labels : List ℕ → Option ℕ) (i : Instr) → IsTextOf text pc labels i → HasWidth text (width_of i)
 width_is text pc labels i is = record { instr = i; label = is.label; row = is.row; bytes = refl }
-
--- the row of an arm
-pub wide_scalar : (i : Instr) (s : ScalarRow) → i ≡ Scalar s → length (halfwords i) ≡ 2 → IsWide i
-wide_scalar i s is two = subst (λ (x : Instr). IsWide x) (sym is) (subst (λ (x : Instr). length (halfwords x) ≡ 2) is two)
-
-pub wide_branch : (i : Instr) (b : BranchRow) → i ≡ Branch b → length (halfwords i) ≡ 2 → IsWide i
-wide_branch i b is two = subst (λ (x : Instr). IsWide x) (sym is) (subst (λ (x : Instr). length (halfwords x) ≡ 2) is two)
-
-pub scalar_text : (i : Instr) (s : ScalarRow) (pc : ℕ) → i ≡ Scalar s → wide.text_of i (wide_targets.target i pc) ≡ long_text i pc
-scalar_text i s pc is = subst (λ (x : Instr). wide.text_of x (wide_targets.target x pc) ≡ long_text x pc) (sym is) refl
-
-pub branch_text : (i : Instr) (b : BranchRow) (pc : ℕ) → i ≡ Branch b → wide.text_of i (wide_targets.target i pc) ≡ long_text i pc
-branch_text i b pc is = subst (λ (x : Instr). wide.text_of x (wide_targets.target x pc) ≡ long_text x pc) (sym is) refl
-
-pub vector_text : (i : Instr) (v : VectorRow) (pc : ℕ) → i ≡ Vector v → printed (vectors.tokens_of v) ≡ long_text i pc
-vector_text i v pc is = subst (λ (x : Instr). printed (vectors.tokens_of v) ≡ long_text x pc) (sym is) refl
-
-pub vector_is_printed : (i : Instr) (v : VectorRow) (pc : ℕ) (text : List ℕ) (labels : List ℕ → Option ℕ) → i ≡ Vector v → text ≡ printed (vectors.tokens_of v)
-    → vectors.IsTextOf text v → IsTextOf text pc labels i
-vector_is_printed i v pc text labels is e read = subst (λ (x : Instr). IsTextOf text pc labels x) (sym is) (vector_printed v pc text labels e read)
-
--- the table of a row, by its width
-pub is_narrow : (i : Instr) → 2 * length (halfwords i) ≡ 2 → IsNarrow i
-is_narrow i e = omega (arith, e)
-
-pub is_long : (i : Instr) → (2 * length (halfwords i) ≡ 2 → ⊥) → length (halfwords i) ≡ 2
-is_long i not_ =
-    elim (lengths i) [
-      | inl e ↦ absurd (not_ (omega (arith, e)))
-      | inr e ↦ e
-    ]
-
-chosen_text : (n : ℕ) (xs ys : List ℕ) → n ≡ 1 → xs ≡ cond (nat_eq n 1) xs ys
-chosen_text n xs ys e = rw e refl
-
-other_text : (n : ℕ) (xs ys : List ℕ) → n ≡ 2 → ys ≡ cond (nat_eq n 1) xs ys
-other_text n xs ys e = rw e refl
-
-pub narrow_text : (i : Instr) (pc : ℕ) → IsNarrow i → text_of i (target i pc) ≡ printed_text i pc
-narrow_text i pc e = chosen_text (length (halfwords i)) (text_of i (target i pc)) (long_text i pc) e
-
-pub long_is_printed : (i : Instr) (pc : ℕ) → length (halfwords i) ≡ 2 → long_text i pc ≡ printed_text i pc
-long_is_printed i pc e = other_text (length (halfwords i)) (text_of i (target i pc)) (long_text i pc) e
 
 abbrev pub no_labels : List ℕ → Option ℕ
 no_labels w = None

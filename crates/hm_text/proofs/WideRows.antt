@@ -1,23 +1,18 @@
 -- Each row of two halfwords that is no vector row: its mnemonic is its own, and its text is of the form.
-use Rattle.std.proofs.Common.{◌≡◌, ℕ, zero, suc, ◌*◌, ◌<◌, Bool, true, false, cond, List, [], ◌∷◌, ◌++◌, length, map, Some, refl, subst, inl, inr, arith}
+use Rattle.std.proofs.Common.{◌≡◌, ℕ, zero, suc, ◌*◌, ◌<◌, Bool, true, false, cond, List, [], ◌∷◌, ◌++◌, map, Some, refl, subst, inl, inr, arith}
 use Rattle.std.specs.Prelude.{nat_eq, not, ◌&&◌}
 use Rattle.std.proofs.lemmas.Bool.{and_parts}
 use Rattle.std.proofs.lemmas.Bool.Decides.{nat_tests}
 use Rattle.std.proofs.lemmas.Nat.{ones_le_self}
-use Rattle.hm_isa.specs.declared.Branch.{Branch}
-use Rattle.hm_isa.specs.declared.Instr.{Instr}
-use Rattle.hm_isa.specs.declared.Instr.TheVariants as instr
-use Rattle.hm_isa.specs.declared.Scalar.{Scalar}
-use Rattle.hm_isa.specs.declared.Scalar.TheVariants as scalar
 use Rattle.hm_isa.specs.declared.data.DataName.{DataName}
 use Rattle.hm_isa.specs.declared.data.DataName.TheVariants as data_
 use Rattle.hm_isa.specs.declared.system.BarrierName.{BarrierName}
 use Rattle.hm_isa.specs.declared.system.T19.TheVariants as t19
 use Rattle.hm_isa.specs.declared.wide.WideListName.{WideListName}
-use Rattle.hm_isa.specs.Code.{branch_halves, scalar_halves}
+use Rattle.hm_isa.specs.declared.widths.WideRow.{WideRow}
+use Rattle.hm_isa.specs.declared.widths.WideRow.TheVariants.{T1, T2, T9, T14, T19}
 use Rattle.hm_isa.specs.Rules.{is_wide_list}
 use Rattle.hm_isa.specs.Words.{imm5, is_by_carry, shift_number}
-use Rattle.hm_layout.specs.Wide.{IsWide}
 use Rattle.hm_tokens.specs.Tokens.{Tok, word, number, comma}
 use Rattle.hm_line.specs.declared.form.Depth.TheVariants.{Outside}
 use Rattle.hm_line.specs.declared.form.Operands.TheVariants as ops
@@ -26,7 +21,7 @@ use Rattle.hm_line.proofs.Operands.{takes}
 use Rattle.hm_text_base.proofs.Steps.{some_is, test_some}
 use Rattle.hm_text_rows.specs.Shapes.{braces, r, three, two}
 use Rattle.hm_text_rows.proofs.Words.{below_holds}
-use Rattle.hm_text32_rows.specs.Rows.{and_shifted, constant_tokens, data_tokens, is_unshifted, list_start, moved_tokens, other_tokens, row_tokens}
+use Rattle.hm_text32_rows.specs.Rows.{and_shifted, constant_tokens, data_tokens, is_unshifted, list_start, moved_tokens, other_tokens}
 use Rattle.hm_text32_rows.specs.Rows.{single_tokens, tokens_of}
 use Rattle.hm_text32_rows.specs.Mnemonics.{barrier_mnemonic, carry_mnemonic, data_mnemonic, move_mnemonic, test_mnemonic, turn_mnemonic, wide}
 use Rattle.hm_text32_rows.specs.Mnemonics.{wide_list_mnemonic, wide_list_suffix}
@@ -92,32 +87,23 @@ data_named name s n d m ty k lt bit =
     (chosen (nat_eq n 15) (single_named name s d m ty k lt bit)
     (shifted_named (data_mnemonic name s ++ wide) (r d ∷ comma ∷ r n ∷ comma ∷ r m ∷ []) ty k (free_data name s)))
 
--- all rows at once, but for T1 and T2, and for T9, which is quicker by itself
-scalar_named : (i : Scalar) → length (scalar_halves i) ≡ 2 → IsNamed (row_tokens (instr.Scalar i))
-scalar_named (scalar.T1 i) _ = constant_named i.name i.s.value i.n.value i.d.value _
-scalar_named (scalar.T2 i) _ = data_named i.name i.s.value i.n.value i.d.value i.m.value i.ty.value (imm5 i.i3.value i.i2.value) i.ty.in_range i.s.in_range
-scalar_named (scalar.T9 i) _ = chosen (nat_eq (8 * i.r.value) 0) (line (grind arith)) (line (grind arith))
-scalar_named i e = grind arith
-
--- whatever its label is, a branch has a mnemonic of its own
-branch_named : (i : Branch) (t : Tok) → length (branch_halves i) ≡ 2 → IsNamed (tokens_of (instr.Branch i) t)
-branch_named i t e = grind arith
+-- all rows at once, whatever their label is, but for T1 and T2, and for T9, which is quicker by itself
+printed_named : (i : WideRow) (t : Tok) → IsNamed (tokens_of i t)
+printed_named (T1 i) t = constant_named i.name i.s.value i.n.value i.d.value _
+printed_named (T2 i) t = data_named i.name i.s.value i.n.value i.d.value i.m.value i.ty.value (imm5 i.i3.value i.i2.value) i.ty.in_range i.s.in_range
+printed_named (T9 i) t = chosen (nat_eq (8 * i.r.value) 0) (line (grind arith)) (line (grind arith))
+printed_named i t = grind arith
 
 -- the other texts
-other_named : (i : Instr) (ts : List Tok) → other_tokens i ≡ Some ts → is_wide_line ts ≡ true
-other_named (instr.Scalar (scalar.T19 (t19.Barrier i))) ts e =
+other_named : (i : WideRow) (ts : List Tok) → other_tokens i ≡ Some ts → is_wide_line ts ≡ true
+other_named (T19 (t19.Barrier i)) ts e =
     let a = test_some (nat_eq i.o.value 15) (Some (word (barrier_mnemonic i.name) ∷ [])) ts e in
     subst (λ (x : List Tok). is_wide_line x ≡ true) (some_is (word (barrier_mnemonic i.name) ∷ []) ts a.1) (line {ts = []} (free_barrier i.name)).is
 other_named i ts e = absurd cc
 
-printed_named : (i : Instr) (t : Tok) → IsWide i → IsNamed (tokens_of i t)
-printed_named (instr.Scalar i) t e = scalar_named i e
-printed_named (instr.Branch i) t e = branch_named i t e
-printed_named (instr.Vector i) t e = absurd e
-
-pub wide_named : (i : Instr) (t : Tok) (ts : List Tok) → IsWide i → AreTokens i t ts → is_wide_line ts ≡ true
-wide_named i t ts e (inl is) = subst (λ (x : List Tok). is_wide_line x ≡ true) is (printed_named i t e).is
-wide_named i t ts e (inr is) = other_named i ts is
+pub wide_named : (i : WideRow) (t : Tok) (ts : List Tok) → AreTokens i t ts → is_wide_line ts ≡ true
+wide_named i t ts (inl is) = subst (λ (x : List Tok). is_wide_line x ≡ true) is (printed_named i t).is
+wide_named i t ts (inr is) = other_named i ts is
 
 -- THE FORM
 -- a list has two registers or more
@@ -145,17 +131,9 @@ data_formed name s n d m ty k =
     either_formed (nat_eq d 15) (two_formed (test_mnemonic name ++ wide) n m ty k)
     (either_formed (nat_eq n 15) (single_formed name s d m ty k) (three_formed (data_mnemonic name s ++ wide) d n m ty k))
 
-scalar_formed : (i : Scalar) → length (scalar_halves i) ≡ 2 → Formed (row_tokens (instr.Scalar i))
-scalar_formed (scalar.T2 i) e = data_formed i.name i.s.value i.n.value i.d.value i.m.value i.ty.value (imm5 i.i3.value i.i2.value)
-scalar_formed (scalar.T14 i) e =
+pub formed_wide : (i : WideRow) (a : ℕ) → Formed (tokens_of i (number a))
+formed_wide (T2 i) a = data_formed i.name i.s.value i.n.value i.d.value i.m.value i.ty.value (imm5 i.i3.value i.i2.value)
+formed_wide (T14 i) a =
     list_formed i.w.value i.n.value (wide_list_mnemonic i.name ++ wide_list_suffix i.name) (braces i.list.value)
     (taken_braces i.list.value i.list.in_range (some_listed i.name i.w.value i.n.value i.list.value i.rules))
-scalar_formed i e = grind arith
-
-branch_formed : (i : Branch) (a : ℕ) → length (branch_halves i) ≡ 2 → Formed (tokens_of (instr.Branch i) (number a))
-branch_formed i a e = grind arith
-
-pub formed_wide : (i : Instr) (a : ℕ) → IsWide i → Formed (tokens_of i (number a))
-formed_wide (instr.Scalar i) a e = scalar_formed i e
-formed_wide (instr.Branch i) a e = branch_formed i a e
-formed_wide (instr.Vector i) a e = absurd e
+formed_wide i a = grind arith

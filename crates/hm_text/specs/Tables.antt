@@ -1,13 +1,16 @@
 -- The texts of all tables together: which row has a text, and what its label names.
-use Rattle.std.specs.Prelude.{◌⊎◌, ℕ, ◌*◌, ◌||◌, Bool, List, Option, Some, None, length, nat_eq, if◌then◌else◌}
-use Rattle.std.specs.Option.{option_or}
+use Rattle.std.specs.Prelude.{◌⊎◌, ℕ, ◌*◌, Bool, false, List, Option, None, length}
 use Rattle.hm_isa.specs.declared.Instr.{Instr}
 use Rattle.hm_isa.specs.declared.Instr.TheVariants.{Scalar, Branch, Vector}
+use Rattle.hm_isa.specs.declared.widths.ByWidth.{ByWidth}
+use Rattle.hm_isa.specs.declared.widths.ByWidth.TheVariants as by
 use Rattle.hm_isa.specs.Code.{halfwords}
+use Rattle.hm_isa.specs.Widths.{by_width}
 use Rattle.hm_tokens.specs.Lines.{IsLineOf, printed}
 use Rattle.hm_tokens.specs.Ranges.{normal}
 use Rattle.hm_tokens.specs.Tokens.{Tok}
 use Rattle.hm_text_rows.specs.Labels.{Reaches}
+use Rattle.hm_text_labels.specs.Texts.{label_where}
 use Rattle.hm_text16_rows.specs.Rows as narrow_rows
 use Rattle.hm_text16_rows.specs.Targets as narrow_targets
 use Rattle.hm_text16.specs.Texts as narrow
@@ -46,17 +49,29 @@ IsLongText text i t = IsWideText text i t ⊎ IsVectorText text i
 abbrev pub HasText : Instr → Tok → List ℕ → Type 0
 HasText i t text = IsNarrowText text i t ⊎ IsLongText text i t
 
+-- whether the last operand of a row is a label, by its table
+abbrev pub has_label_by : ByWidth → Bool
+has_label_by (by.Narrow r) = narrow_rows.has_label r
+has_label_by (by.Wide r) = wide_rows.has_label r
+has_label_by (by.Vector v) = false
+
 -- whether the last operand of a row is a label
 abbrev pub has_label : Instr → Bool
-has_label i = narrow_rows.has_label i || wide_rows.has_label i
+has_label i = has_label_by (by_width i)
 
 -- the label of a row, where it has one
 abbrev pub label_of : Instr → Tok → Option Tok
-label_of i t = if has_label i then Some t else None
+label_of i t = label_where (has_label i) t
+
+-- the address that the label of a row names, by its table
+abbrev pub target_by : ByWidth → ℕ → Option ℕ
+target_by (by.Narrow r) pc = narrow_targets.target r pc
+target_by (by.Wide r) pc = wide_targets.target r pc
+target_by (by.Vector v) pc = None
 
 -- the address that the label of a row names, where the instruction stands at pc; None where it has none
 abbrev pub target : Instr → ℕ → Option ℕ
-target i pc = option_or (narrow_targets.target i pc) (wide_targets.target i pc)
+target i pc = target_by (by_width i) pc
 
 -- a row has the text and stands at pc, with a label that names the address a
 pub record IsRowAt (text : List ℕ) (pc : ℕ) (a : ℕ) (i : Instr) : Type 0 where
@@ -73,12 +88,12 @@ abbrev pub width_of : Instr → ℕ
 width_of i = 2 * length (halfwords i)
 
 -- PRINTED
--- the text of a row of two halfwords that stands at pc: of a vector row that of its own table
-abbrev pub long_text : Instr → ℕ → List ℕ
-long_text (Scalar i) pc = wide.text_of (Scalar i) (wide_targets.target (Scalar i) pc)
-long_text (Branch i) pc = wide.text_of (Branch i) (wide_targets.target (Branch i) pc)
-long_text (Vector v) pc = printed (vectors.tokens_of v)
+-- the text of a row that stands at pc, by its table
+abbrev pub printed_by : ByWidth → ℕ → List ℕ
+printed_by (by.Narrow r) pc = narrow.text_of r (narrow_targets.target r pc)
+printed_by (by.Wide r) pc = wide.text_of r (wide_targets.target r pc)
+printed_by (by.Vector v) pc = printed (vectors.tokens_of v)
 
--- the text of a row that stands at pc, by the table that it is of
+-- the text of a row that stands at pc
 abbrev pub printed_text : Instr → ℕ → List ℕ
-printed_text i pc = if nat_eq (length (halfwords i)) 1 then narrow.text_of i (narrow_targets.target i pc) else long_text i pc
+printed_text i pc = printed_by (by_width i) pc

@@ -1,14 +1,13 @@
 //! Instructions as text: printed, their width told of a text alone, and read where the labels are known.
 #![tactic(auto)]
 
-ghost use Rattle.std.specs.Prelude.{◌≡◌, ◌↔◌, ℕ, ◌%◌, List, Option, Ok, Err, MatchResult, IfOk, length, option_map};
+ghost use Rattle.std.specs.Prelude.{◌≡◌, ◌↔◌, ℕ, ◌%◌, List, Option, Ok, Err, MatchResult, IfOk, option_map};
 ghost use Rattle.std.specs.FinMap as map;
 ghost use Rattle.hm_isa.specs.declared.Instr.{Instr};
-ghost use Rattle.hm_isa.specs.Code.{halfwords};
 ghost use Rattle.hm_line.specs.declared.errors.TextErr.{TextErr};
 ghost use Rattle.hm_line.specs.Texts.{IsOfForm};
 ghost use Rattle.hm_text.specs.Refusals.{IsAtFirstWord, IsShapeRefused, IsTextRefused};
-ghost use Rattle.hm_text.specs.Tables.{long_text, printed_text, width_of};
+ghost use Rattle.hm_text.specs.Tables.{printed_text, width_of};
 ghost use Rattle.hm_text.specs.Texts.{HasWidth, IsOnlyShape, IsShape, IsTextOf};
 ghost use Rattle.hm_tokens.specs.Tokens.{tok};
 
@@ -17,7 +16,7 @@ mod named;
 mod tables;
 
 use arrayvec::ArrayString;
-use hm_isa::{Instr, width};
+use hm_isa::{ByWidth, Instr, by_width};
 pub use hm_line::{AsmKind, Labels, TextErr};
 use hm_line::{Form, check_form, column, last_column};
 use hm_text16::print16;
@@ -28,19 +27,6 @@ pub use laws::text_law;
 use named::address_in;
 use tables::{Shape, row_at, row_shape};
 
-/// The text of an instruction of two halfwords.
-fn print_long(i: &Instr, pc: u32) -> ArrayString<96>
-    requires long { length (halfwords i.now) ≡ 2 }
-    ensures text { result.bytes ≡ long_text i.now pc }
-    ensures read { (labels : List ℕ → Option ℕ) → IsTextOf result.bytes pc labels i.now }
-{
-    match i {
-        Instr::Scalar(_row) => print32(i, pc),
-        Instr::Branch(_row) => print32(i, pc),
-        Instr::Vector(v) => print_v(v),
-    }
-}
-
 /// The text of an instruction that stands at `pc`: the first word, a space, and the operands with commas between them, numbers in
 /// decimal, and for a label the address that it names as `0x` and eight digits. `parse_instr` gives the instruction again, at the
 /// same `pc` and with any labels, and `shape` its width.
@@ -50,10 +36,10 @@ pub fn print_instr(i: &Instr, pc: u32) -> ArrayString<96>
     ensures read { (labels : List ℕ → Option ℕ) → IsTextOf result.bytes pc labels i.now }
     ensures width { HasWidth result.bytes (width_of i.now) }
 {
-    if width(i) == 2 {
-        print16(i, pc)
-    } else {
-        print_long(i, pc)
+    match by_width(i) {
+        ByWidth::Narrow(row) => print16(&row, pc),
+        ByWidth::Wide(row) => print32(&row, pc),
+        ByWidth::Vector(row) => print_v(&row),
     }
 }
 

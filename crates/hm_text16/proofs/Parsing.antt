@@ -1,56 +1,51 @@
 -- Reading: a row that has the tokens is the row of the code that they ask for.
-use Rattle.std.proofs.Common.{◌≡◌, ℕ, ◌^◌, ◌<◌, List, [], ◌∷◌, length, Some, None, refl, sym, subst, ap, ◌∙◌, arith}
+use Rattle.std.proofs.Common.{◌≡◌, ℕ, ◌^◌, ◌<◌, List, [], ◌∷◌, Some, None, refl, sym, subst, ap, ◌∙◌, arith}
 use Rattle.hm_isa.specs.declared.Instr.{Instr}
-use Rattle.hm_isa.specs.Code.{halfwords}
+use Rattle.hm_isa.specs.declared.widths.ByWidth.{ByWidth}
+use Rattle.hm_isa.specs.Code.{halfwords, narrow_code}
 use Rattle.hm_text_base.proofs.Steps.{some_is}
 use Rattle.hm_tokens.specs.Tokens.{Tok}
 use Rattle.hm_text16_codes.specs.Codes.{code_in}
 use Rattle.hm_text_labels.proofs.Reading.{IsReadable, NearestOf}
+use Rattle.hm_text_rows.specs.Labels.{Reaches}
 use Rattle.hm_text16_rows.specs.Rows.{tokens_of}
-use Rattle.hm_text16_rows.specs.Targets.{target}
-use Rattle.hm_text16.specs.Texts.{HasTokens, IsNarrow, IsRowAt, label_of}
-use Rattle.hm_text16.proofs.Fits.{IsSmall, small_code}
+use Rattle.hm_text16.specs.Texts.{HasTokens, IsRowAt, label_of, target_by, target_of}
+use Rattle.hm_text16.proofs.Fits.{halves_narrow, small_code}
 use Rattle.hm_text16_codes.proofs.Rows.{row_law}
 use Rattle.hm_text16.proofs.Laws.{few_tokens, nearest}
-use Rattle.hm_text16_codes.proofs.Asked.{halves}
+use Rattle.hm_text16.proofs.Tails.{reaches_row}
 
 -- ---- the code that the tokens of a row ask for
 
-asked : (ts : List Tok) (pc a : ℕ) (i : Instr) → pc < 2 ^ 32 → a < 2 ^ 32 → IsRowAt ts pc a i → halves (code_in ts pc a) ≡ Some (halfwords i)
+asked : (ts : List Tok) (pc a : ℕ) (i : Instr) → pc < 2 ^ 32 → a < 2 ^ 32 → (is : IsRowAt ts pc a i) → code_in ts pc a ≡ Some (narrow_code is.has.row)
 asked ts pc a i hp ha is =
-    subst (λ (x : List Tok). halves (code_in x pc a) ≡ Some (halfwords i)) is.has.tokens
-    ((row_law i is.has.narrow).asks is.label pc a is.has.label hp ha is.reaches)
+    subst (λ (x : List Tok). code_in x pc a ≡ Some (narrow_code is.has.row)) is.has.tokens
+    ((row_law is.has.row).asks is.label pc a is.has.label hp ha (reaches_row ts pc a i is))
 
-code_again : (w : ℕ) (hs : List ℕ) → halves (Some w) ≡ Some hs → hs ≡ w ∷ []
-code_again w hs e = sym (some_is (w ∷ []) hs e)
+row_code : (ts : List Tok) (pc a w : ℕ) → pc < 2 ^ 32 → a < 2 ^ 32 → code_in ts pc a ≡ Some w → (i : Instr) (is : IsRowAt ts pc a i)
+    → narrow_code is.has.row ≡ w
+row_code ts pc a w hp ha e i is = some_is (narrow_code is.has.row) w (sym (asked ts pc a i hp ha is) ∙ e)
 
 pub the_code : (ts : List Tok) (pc a w : ℕ) → pc < 2 ^ 32 → a < 2 ^ 32 → code_in ts pc a ≡ Some w → (i : Instr) → IsRowAt ts pc a i → halfwords i ≡ w ∷ []
-the_code ts pc a w hp ha e i is = code_again w (halfwords i) (ap halves (sym e) ∙ asked ts pc a i hp ha is)
+the_code ts pc a w hp ha e i is = halves_narrow i is.has.row is.has.is ∙ ap (λ (c : ℕ). c ∷ []) (row_code ts pc a w hp ha e i is)
 
 pub no_code : (ts : List Tok) (pc a : ℕ) → pc < 2 ^ 32 → a < 2 ^ 32 → code_in ts pc a ≡ None → (i : Instr) → IsRowAt ts pc a i → ⊥
-no_code ts pc a hp ha e i is = let f = ap halves (sym e) ∙ asked ts pc a i hp ha is in cc
+no_code ts pc a hp ha e i is = let f = sym e ∙ asked ts pc a i hp ha is in cc
 
 pub too_large : (ts : List Tok) (pc a w : ℕ) → pc < 2 ^ 32 → a < 2 ^ 32 → code_in ts pc a ≡ Some w → 0xffff < w → (i : Instr) → IsRowAt ts pc a i → ⊥
 too_large ts pc a w hp ha e lt i is =
-    let small = subst (λ (hs : List ℕ). IsSmall hs) (the_code ts pc a w hp ha e i is) (small_code i) in
+    let small = subst (λ (c : ℕ). c < 65536) (row_code ts pc a w hp ha e i is) (small_code i is.has.row is.has.is) in
     omega (arith, small)
-
-one_length : (hs : List ℕ) (w : ℕ) → hs ≡ w ∷ [] → length hs ≡ 1
-one_length hs w e = ap length e
-
-pub narrow_of : (i : Instr) (w : ℕ) → halfwords i ≡ w ∷ [] → IsNarrow i
-narrow_of i w e = one_length (halfwords i) w e
 
 -- ---- what the table says of its rows
 
-abbrev pub AreTokens : Instr → Tok → List Tok → Type 0
-AreTokens i t ts = tokens_of i t ≡ ts
-
-at_nearest : (i : Instr) (t : Tok) (ts : List Tok) → HasTokens i t ts → NearestOf HasTokens AreTokens label_of target i t ts
+at_nearest : (i : Instr) (t : Tok) (ts : List Tok) → HasTokens i t ts → NearestOf HasTokens label_of target_of i t ts
 at_nearest i t ts has =
-    let n = nearest i has.narrow in
-    let same : tokens_of n.near t ≡ ts = rw (n.label, n.tokens) has.tokens in
-    (n.near, record { label = t; has = record { narrow = n.narrow; label = has.label; tokens = same }; reaches = n.reaches }, same, rw n.label refl)
+    let n = nearest i has.row has.is in
+    let same : tokens_of n.row t ≡ ts = rw (n.label, n.tokens) has.tokens in
+    let near : HasTokens n.near t ts = record { row = n.row; is = n.is; label = has.label; tokens = same } in
+    let reaches : Reaches (target_of n.near 0) 4 = subst (λ (w : ByWidth). Reaches (target_by w 0) 4) (sym n.is) n.reaches in
+    (n.near, record { label = t; has = near; reaches = reaches }, rw (n.is, has.is, n.label) refl)
 
-pub readable : IsReadable HasTokens AreTokens label_of target
-readable = record { are = λ i t ts has. has.tokens; few = few_tokens; near = at_nearest }
+pub readable : IsReadable HasTokens label_of target_of
+readable = record { few = few_tokens; near = at_nearest }

@@ -3,9 +3,7 @@ use Rattle.std.proofs.Common.{◌≡◌, ℕ, ◌+◌, ◌*◌, ◌/◌, ◌%◌
 use Rattle.std.specs.Prelude.{codes, nat_lt}
 use Rattle.std.proofs.lemmas.Bool.{cases_Bool}
 use Rattle.std.proofs.lemmas.Bool.Decides.{nat_tests}
-use Rattle.hm_isa.specs.declared.Instr.TheVariants as instr
-use Rattle.hm_isa.specs.declared.Scalar.TheVariants as scalar
-use Rattle.hm_isa.specs.declared.Branch.TheVariants as branch
+use Rattle.hm_isa.specs.declared.widths.NarrowRow.TheVariants as narrow
 use Rattle.hm_isa.specs.declared.narrow.S14.{S14}
 use Rattle.hm_isa.specs.declared.narrow.S24.{S24}
 use Rattle.hm_isa.specs.declared.narrow.S25.{S25}
@@ -36,9 +34,9 @@ literal_field pc i a hp hi e =
     let d = distance_back ((pc + 4) / 4 * 4) (4 * i) a (omega arith) (omega arith) e in
     rw d (omega arith)
 
-pub row_s14 : (i : S14) → Row (instr.Scalar (scalar.S14 i))
+pub row_s14 : (i : S14) → Row (narrow.S14 i)
 row_s14 i =
-    label_row (instr.Scalar (scalar.S14 i)) (codes "ldr") _ _ refl refl (reads_register_label (codes "ldr") _ _ refl (a_low i.t.value i.t.in_range))
+    label_row (narrow.S14 i) (codes "ldr") _ refl (reads_register_label (codes "ldr") _ _ refl (a_low i.t.value i.t.in_range))
     (λ t pc a hp re. asks_literal i.t.value _ i.i.value _ pc a (literal_field pc i.i.value a hp i.i.in_range re))
 
 -- S24
@@ -52,9 +50,9 @@ zero_field pc i a hp hi e =
     let d = distance_back (pc + 4) (2 * i) a (omega arith) (omega arith) e in
     rw d (omega arith)
 
-pub row_s24 : (i : S24) → Row (instr.Branch (branch.S24 i))
+pub row_s24 : (i : S24) → Row (narrow.S24 i)
 row_s24 i =
-    label_row (instr.Branch (branch.S24 i)) (zero_mnemonic i.name) _ _ refl refl
+    label_row (narrow.S24 i) (zero_mnemonic i.name) _ refl
     (reads_register_label (zero_mnemonic i.name) _ _ (grind arith) (a_low i.n.value i.n.in_range))
     (λ t pc a hp re. asks_zero i.name i.n.value _ i.i.value _ pc a (zero_field pc i.i.value a hp i.i.in_range re))
 
@@ -96,13 +94,13 @@ branch_field half i d pc a hp f e =
     let back = distance_back (pc + 4) d a (omega arith) f.small e in
     rw back (f.back)
 
-pub row_s25 : (i : S25) → Row (instr.Branch (branch.S25 i))
+pub row_s25 : (i : S25) → Row (narrow.S25 i)
 row_s25 (s25.Conditional i) =
-    label_row (instr.Branch (branch.S25 (s25.Conditional i))) (branch_mnemonic i.c.value) _ _ refl refl
+    label_row (narrow.S25 (s25.Conditional i)) (branch_mnemonic i.c.value) _ refl
     (reads_label (branch_mnemonic i.c.value) (mnemonic_branch i.c.value i.c.in_range))
     (λ t pc a hp re. asks_conditional i.c.value _ i.i.value pc a i.c.in_range
     (branch_field 128 i.i.value (sign_extended 9 (2 * i.i.value)) pc a hp (near_field (2 * i.i.value) i.i.value refl i.i.in_range) re))
 row_s25 (s25.Always i) =
-    label_row (instr.Branch (branch.S25 (s25.Always i))) (codes "b") _ _ refl refl (reads_label (codes "b") refl)
+    label_row (narrow.S25 (s25.Always i)) (codes "b") _ refl (reads_label (codes "b") refl)
     (λ t pc a hp re. asks_always _ i.i.value pc a
     (branch_field 1024 i.i.value (sign_extended 12 (2 * i.i.value)) pc a hp (far_field (2 * i.i.value) i.i.value refl i.i.in_range) re))

@@ -4,8 +4,7 @@ use Rattle.std.proofs.Common.{ap, arith, inl, inr, ◌⊎◌, ◌∙◌}
 use Rattle.std.specs.Prelude.{codes, nat_eq, nat_lt, ◌&&◌, unwrap_or}
 use Rattle.std.proofs.lemmas.Bool.{and_parts, cases_Bool, eqb-true, ltb-true}
 use Rattle.std.proofs.lemmas.Bool.Decides.{nat_tests}
-use Rattle.hm_isa.specs.declared.Instr.TheVariants as instr
-use Rattle.hm_isa.specs.declared.Scalar.TheVariants as scalar
+use Rattle.hm_isa.specs.declared.widths.NarrowRow.TheVariants as narrow
 use Rattle.hm_isa.specs.declared.narrow.ListName.{ListName}
 use Rattle.hm_isa.specs.declared.narrow.ListName.TheVariants as list
 use Rattle.hm_isa.specs.declared.narrow.S20.{S20}
@@ -29,7 +28,7 @@ use Rattle.hm_text16_rows.specs.Mnemonics.{block_first_word, letters_above}
 use Rattle.hm_text16_codes.proofs.Words.{a_condition, a_low}
 use Rattle.hm_text16_rows.proofs.Registers.{Braces, low_braces, pop_braces, push_braces}
 use Rattle.hm_text16_codes.proofs.Forms.{given, reads_one}
-use Rattle.hm_text16_codes.proofs.Asked.{Row, halves, plain_row}
+use Rattle.hm_text16_codes.proofs.Asked.{Row, plain_row}
 
 -- ---- their codes
 
@@ -141,10 +140,10 @@ list_row list.Pop x n m hx hn hm e = pop_row x n m hx hm (no_n x n m e)
 list_row list.Stm x n m hx hn hm e = stm_row x n m hn hm (eqb-true x 0 (and_parts _ _ (and_parts _ _ e).0).1)
 list_row list.Ldm x n m hx hn hm e = ldm_row x n m hn hm (eqb-true x 0 (and_parts _ _ e).1) (listed_in m n)
 
-pub row_s20 : (i : S20) → Row (instr.Scalar (scalar.S20 i))
+pub row_s20 : (i : S20) → Row (narrow.S20 i)
 row_s20 i =
     let row = list_row i.name i.x.value i.n.value i.list.value i.x.in_range i.n.in_range i.list.in_range i.row in
-    record { asks = λ t pc a l hp ha re. ap halves (row.asks pc a); prints = row.prints }
+    record { asks = λ t pc a l hp ha re. row.asks pc a; prints = row.prints }
 
 -- ---- blocks
 
@@ -189,8 +188,8 @@ mnemonic_low (suc (suc low)) m hl lt = absurd (omega arith)
 some_mask : (c m : ℕ) → keeps_it c m ≡ true → 0 < m
 some_mask c m e = ltb-true 0 m (and_parts _ _ e).0
 
-pub row_s21 : (i : S21) → Row (instr.Scalar (scalar.S21 i))
+pub row_s21 : (i : S21) → Row (narrow.S21 i)
 row_s21 i =
-    plain_row (instr.Scalar (scalar.S21 i)) _ _ _ refl refl
+    plain_row (narrow.S21 i) _ _ refl
     (reads_one _ _ _ (mnemonic_low (i.c.value % 2) i.mask.value (omega arith) i.mask.in_range) (a_condition i.c.value i.c.in_range))
     (λ p b. asks_block i.c.value i.mask.value p b (some_mask i.c.value i.mask.value i.row) i.mask.in_range)

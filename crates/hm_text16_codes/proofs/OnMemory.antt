@@ -7,8 +7,7 @@ use Rattle.hm_isa.specs.declared.narrow.WordName.{WordName}
 use Rattle.hm_isa.specs.declared.narrow.S15.{S15}
 use Rattle.hm_isa.specs.declared.narrow.S16.{S16}
 use Rattle.hm_isa.specs.declared.narrow.S17.{S17}
-use Rattle.hm_isa.specs.declared.Instr.TheVariants as instr
-use Rattle.hm_isa.specs.declared.Scalar.TheVariants as scalar
+use Rattle.hm_isa.specs.declared.widths.NarrowRow.TheVariants as narrow
 use Rattle.hm_isa.specs.Code.{access_base, plain_base, word_base}
 use Rattle.hm_isa.specs.Standing.{◌↑◌}
 use Rattle.hm_text16_codes.specs.declared.operands.Kind.TheVariants as kinds
@@ -28,8 +27,8 @@ asks_access : (name : AccessName) (m n t pc a : ℕ)
 unfolding code_of
 asks_access name m n t pc a = grind arith
 
-pub row_s15 : (i : S15) → Row (instr.Scalar (scalar.S15 i))
-row_s15 i = plain_row (instr.Scalar (scalar.S15 i)) _ _ _ refl refl
+pub row_s15 : (i : S15) → Row (narrow.S15 i)
+row_s15 i = plain_row (narrow.S15 i) _ _ refl
     (reads_by_register _ _ _ _ (grind arith) (low_below i.t.value i.t.in_range) (low_below i.n.value i.n.in_range)
     (low_below i.m.value i.m.in_range))
     (λ p b. asks_access i.name _ _ _ p b)
@@ -49,8 +48,8 @@ offset_fits name i lt = grind arith
 no_sp : (n : ℕ) → n < 8 → eqb n 13 ≡ false
 no_sp n lt = ne_eqb n 13 (λ is. omega arith)
 
-pub row_s16 : (i : S16) → Row (instr.Scalar (scalar.S16 i))
-row_s16 i = plain_row (instr.Scalar (scalar.S16 i)) _ _ _ refl refl
+pub row_s16 : (i : S16) → Row (narrow.S16 i)
+row_s16 i = plain_row (narrow.S16 i) _ _ refl
     (reads_by_number _ _ _ _ (grind arith) (low_below i.t.value i.t.in_range) (low_below i.n.value i.n.in_range)
     (offset_fits i.name i.i.value i.i.in_range)) (λ p b. asks_plain i.name i.i.value _ _ _ p b (no_sp i.n.value i.n.in_range) (size_back i.name i.i.value))
 
@@ -66,7 +65,7 @@ quarter i = omega arith
 words_fit : (i : ℕ) → i < 256 → 4 * i < 10000
 words_fit i lt = omega arith
 
-pub row_s17 : (i : S17) → Row (instr.Scalar (scalar.S17 i))
-row_s17 i = plain_row (instr.Scalar (scalar.S17 i)) _ _ _ refl refl
+pub row_s17 : (i : S17) → Row (narrow.S17 i)
+row_s17 i = plain_row (narrow.S17 i) _ _ refl
     (reads_by_number _ _ _ _ (grind arith) (low_below i.t.value i.t.in_range) (omega arith) (words_fit i.i.value i.i.in_range))
     (λ p b. asks_word i.name i.i.value _ _ p b (quarter i.i.value))

@@ -1,11 +1,7 @@
 -- The text of each row of one halfword, as tokens.
 use Rattle.std.specs.Prelude.{ℕ, ◌+◌, ◌*◌, Bool, true, false, List, [], ◌∷◌, ◌++◌, codes, if◌then◌else◌}
-use Rattle.hm_isa.specs.declared.Instr.{Instr}
-use Rattle.hm_isa.specs.declared.Instr.TheVariants.{Scalar, Branch, Vector}
-use Rattle.hm_isa.specs.declared.Scalar.{Scalar as ScalarRow}
-use Rattle.hm_isa.specs.declared.Scalar.TheVariants.{S1, S2, S3, S4, S5, S6, S7, S8, S9, S10, S11, S12, S13, S14, S15, S16, S17, S18, S19, S20, S21}
-use Rattle.hm_isa.specs.declared.Branch.{Branch as BranchRow}
-use Rattle.hm_isa.specs.declared.Branch.TheVariants.{S23, S24, S25}
+use Rattle.hm_isa.specs.declared.widths.NarrowRow.{NarrowRow}
+use Rattle.hm_isa.specs.declared.widths.NarrowRow.TheVariants as narrow
 use Rattle.hm_isa.specs.declared.narrow.ListName.{ListName}
 use Rattle.hm_isa.specs.declared.narrow.ListName.TheVariants as list
 use Rattle.hm_isa.specs.declared.narrow.S25.{S25 as JumpRow}
@@ -47,61 +43,40 @@ abbrev pub jump_tokens : JumpRow → List Tok
 jump_tokens (s25.Conditional i) = word (branch_mnemonic i.c.value) ∷ []
 jump_tokens (s25.Always i) = word (codes "b") ∷ []
 
--- the tokens of rows S1 to S21, of S14 those before its label; none of other rows
-abbrev pub scalar_tokens : ScalarRow → List Tok
-scalar_tokens (S1 i) = and_constant (two (shift_mnemonic i.name) (r i.d.value) (r i.m.value)) (shift_amount i.name i.i.value)
-scalar_tokens (S2 i) = three (sum_mnemonic i.name) (r i.d.value) (r i.n.value) (r i.m.value)
-scalar_tokens (S3 i) = and_constant (two (sum_mnemonic i.name) (r i.d.value) (r i.n.value)) i.i.value
-scalar_tokens (S4 i) = and_constant (one (byte_mnemonic i.name) (r i.d.value)) i.i.value
-scalar_tokens (S5 i) = two (logic_mnemonic i.name) (r i.d.value) (r i.m.value)
-scalar_tokens (S6 i) = two (codes "add") (r i.d.value) (r i.m.value)
-scalar_tokens (S7 i) = two (codes "cmp") (r i.d.value) (r i.m.value)
-scalar_tokens (S8 i) = two (codes "mov") (r i.d.value) (r i.m.value)
-scalar_tokens (S9 i) = and_constant (two (codes "add") (r i.d.value) (r (base_register i.name))) (4 * i.i.value)
-scalar_tokens (S10 i) = and_constant (one (stack_sum_mnemonic i.name) (r 13)) (4 * i.i.value)
-scalar_tokens (S11 i) = two (extend_mnemonic i.name) (r i.d.value) (r i.m.value)
-scalar_tokens (S12 i) = two (swap_mnemonic i.name) (r i.d.value) (r i.m.value)
-scalar_tokens (S13 i) = one (masking_mnemonic i.name) (word (codes "i"))
-scalar_tokens (S14 i) = word (codes "ldr") ∷ r i.t.value ∷ comma ∷ []
-scalar_tokens (S15 i) = by_register (access_mnemonic i.name) i.t.value i.n.value i.m.value
-scalar_tokens (S16 i) = by_number (plain_mnemonic i.name) i.t.value i.n.value (access_size (plain_access i.name) * i.i.value)
-scalar_tokens (S17 i) = by_number (word_mnemonic i.name) i.t.value 13 (4 * i.i.value)
-scalar_tokens (S18 i) = word (codes "bkpt") ∷ constant i.i.value
-scalar_tokens (S19 i) = word (hint_mnemonic i.name) ∷ []
-scalar_tokens (S20 i) = list_tokens i.name i.x.value i.n.value i.list.value
-scalar_tokens (S21 i) = one (block_first_word i.c.value i.mask.value) (word (block_condition i.c.value))
-scalar_tokens i = []
-
--- the tokens of rows S23 to S25, of S24 and S25 those before the label; none of other rows
-abbrev pub branch_tokens : BranchRow → List Tok
-branch_tokens (S23 i) = one (jump_mnemonic i.name) (r i.m.value)
-branch_tokens (S24 i) = word (zero_mnemonic i.name) ∷ r i.n.value ∷ comma ∷ []
-branch_tokens (S25 i) = jump_tokens i
-branch_tokens i = []
-
--- the tokens of each row of one halfword; where it has a label, the ones before that; none of other rows
-abbrev pub row_tokens : Instr → List Tok
-row_tokens (Scalar i) = scalar_tokens i
-row_tokens (Branch i) = branch_tokens i
-row_tokens (Vector i) = []
-
--- whether the last operand of a row of one halfword that is no branch is a label: S14 only
-abbrev pub has_label_scalar : ScalarRow → Bool
-has_label_scalar (S14 i) = true
-has_label_scalar i = false
-
--- whether the last operand of a branch of one halfword is a label: S24 and S25
-abbrev pub has_label_branch : BranchRow → Bool
-has_label_branch (S24 i) = true
-has_label_branch (S25 i) = true
-has_label_branch i = false
+-- the tokens of each row; of S14, S24 and S25, which have a label, those before it
+abbrev pub row_tokens : NarrowRow → List Tok
+row_tokens (narrow.S1 i) = and_constant (two (shift_mnemonic i.name) (r i.d.value) (r i.m.value)) (shift_amount i.name i.i.value)
+row_tokens (narrow.S2 i) = three (sum_mnemonic i.name) (r i.d.value) (r i.n.value) (r i.m.value)
+row_tokens (narrow.S3 i) = and_constant (two (sum_mnemonic i.name) (r i.d.value) (r i.n.value)) i.i.value
+row_tokens (narrow.S4 i) = and_constant (one (byte_mnemonic i.name) (r i.d.value)) i.i.value
+row_tokens (narrow.S5 i) = two (logic_mnemonic i.name) (r i.d.value) (r i.m.value)
+row_tokens (narrow.S6 i) = two (codes "add") (r i.d.value) (r i.m.value)
+row_tokens (narrow.S7 i) = two (codes "cmp") (r i.d.value) (r i.m.value)
+row_tokens (narrow.S8 i) = two (codes "mov") (r i.d.value) (r i.m.value)
+row_tokens (narrow.S9 i) = and_constant (two (codes "add") (r i.d.value) (r (base_register i.name))) (4 * i.i.value)
+row_tokens (narrow.S10 i) = and_constant (one (stack_sum_mnemonic i.name) (r 13)) (4 * i.i.value)
+row_tokens (narrow.S11 i) = two (extend_mnemonic i.name) (r i.d.value) (r i.m.value)
+row_tokens (narrow.S12 i) = two (swap_mnemonic i.name) (r i.d.value) (r i.m.value)
+row_tokens (narrow.S13 i) = one (masking_mnemonic i.name) (word (codes "i"))
+row_tokens (narrow.S14 i) = word (codes "ldr") ∷ r i.t.value ∷ comma ∷ []
+row_tokens (narrow.S15 i) = by_register (access_mnemonic i.name) i.t.value i.n.value i.m.value
+row_tokens (narrow.S16 i) = by_number (plain_mnemonic i.name) i.t.value i.n.value (access_size (plain_access i.name) * i.i.value)
+row_tokens (narrow.S17 i) = by_number (word_mnemonic i.name) i.t.value 13 (4 * i.i.value)
+row_tokens (narrow.S18 i) = word (codes "bkpt") ∷ constant i.i.value
+row_tokens (narrow.S19 i) = word (hint_mnemonic i.name) ∷ []
+row_tokens (narrow.S20 i) = list_tokens i.name i.x.value i.n.value i.list.value
+row_tokens (narrow.S21 i) = one (block_first_word i.c.value i.mask.value) (word (block_condition i.c.value))
+row_tokens (narrow.S23 i) = one (jump_mnemonic i.name) (r i.m.value)
+row_tokens (narrow.S24 i) = word (zero_mnemonic i.name) ∷ r i.n.value ∷ comma ∷ []
+row_tokens (narrow.S25 i) = jump_tokens i
 
 -- whether the last operand of a row is a label: S14, S24, S25
-abbrev pub has_label : Instr → Bool
-has_label (Scalar i) = has_label_scalar i
-has_label (Branch i) = has_label_branch i
-has_label (Vector i) = false
+abbrev pub has_label : NarrowRow → Bool
+has_label (narrow.S14 i) = true
+has_label (narrow.S24 i) = true
+has_label (narrow.S25 i) = true
+has_label i = false
 
 -- the whole text of a row, where t is the token of its label, if it has one
-abbrev pub tokens_of : Instr → Tok → List Tok
+abbrev pub tokens_of : NarrowRow → Tok → List Tok
 tokens_of i t = if has_label i then row_tokens i ++ t ∷ [] else row_tokens i

@@ -1,26 +1,20 @@
 -- The codes of these rows have 32 bits.
-use Rattle.std.proofs.Common.{ℕ, ◌<◌, ◌^◌, refl, ap, arith}
+use Rattle.std.proofs.Common.{◌≡◌, ℕ, ◌<◌, ◌^◌, refl, subst}
 use Rattle.hm_isa.specs.declared.Instr.{Instr}
-use Rattle.hm_isa.specs.declared.Instr.TheVariants as instr
-use Rattle.hm_isa.specs.declared.Scalar.{Scalar}
-use Rattle.hm_isa.specs.declared.Branch.{Branch}
-use Rattle.hm_isa.specs.Code.{branch_halves, scalar_halves}
-use Rattle.hm_codes.proofs.Widths.{joined}
-use Rattle.hm_codes.proofs.Tables.{coded_branch, coded_scalar}
-use Rattle.hm_layout.specs.Wide.{HasWord}
+use Rattle.hm_isa.specs.declared.widths.WideRow.{WideRow}
+use Rattle.hm_isa.specs.declared.widths.ByWidth.TheVariants as by
+use Rattle.hm_isa.specs.Code.{halfwords, wide_code}
+use Rattle.hm_isa.specs.Widths.{by_width}
+use Rattle.hm_codes.proofs.Widths.{joined, rejoined}
+use Rattle.hm_codes.proofs.Unique.{coded_instr}
 use Rattle.hm_text_rows.proofs.Fits.{below_32, has_32, kind_in}
 
-scalar_below : (s : Scalar) → joined (scalar_halves s) < 2 ^ 32
-scalar_below s =
-    let (k, m, h) = coded_scalar.has refl s in
-    below_32 k.bits (joined (scalar_halves s)) (kind_in has_32 k coded_scalar.kinds refl m) h.bits
+instr_below : (i : Instr) → joined (halfwords i) < 2 ^ 32
+instr_below i =
+    let (k, m, h) = coded_instr.has refl i in
+    below_32 k.bits (joined (halfwords i)) (kind_in has_32 k coded_instr.kinds refl m) h.bits
 
-branch_below : (b : Branch) → joined (branch_halves b) < 2 ^ 32
-branch_below b =
-    let (k, m, h) = coded_branch.has refl b in
-    below_32 k.bits (joined (branch_halves b)) (kind_in has_32 k coded_branch.kinds refl m) h.bits
-
-pub word_below : (i : Instr) (w : ℕ) → HasWord i w → w < 2 ^ 32
-word_below (instr.Scalar s) w e = let below = scalar_below s in let same = ap joined e in omega (arith, below, same)
-word_below (instr.Branch b) w e = let below = branch_below b in let same = ap joined e in omega (arith, below, same)
-word_below (instr.Vector v) w e = absurd e
+pub code_below : (i : Instr) (r : WideRow) → by_width i ≡ by.Wide r → wide_code r < 2 ^ 32
+code_below i r is =
+    let same : joined (halfwords i) ≡ wide_code r = rw is (rejoined (wide_code r)) in
+    subst (λ (w : ℕ). w < 2 ^ 32) same (instr_below i)

@@ -1,9 +1,10 @@
 //! The texts of the rows of two halfwords that are no vector rows: printed, and read from tokens.
 #![tactic(auto)]
 
-ghost use Rattle.std.specs.Prelude.{◌≡◌, ℕ, IfSome, List, Option, Some, length, map, option_map};
-ghost use Rattle.hm_layout.specs.Wide.{IsWide};
+ghost use Rattle.std.specs.Prelude.{◌≡◌, ℕ, IfSome, List, Option, Some, map, option_map};
 ghost use Rattle.hm_isa.specs.declared.Instr.{Instr};
+ghost use Rattle.hm_isa.specs.declared.widths.ByWidth.{ByWidth};
+ghost use Rattle.hm_isa.specs.Widths.{by_width};
 ghost use Rattle.hm_text32_rows.specs.Targets.{target};
 ghost use Rattle.hm_text32.specs.Texts.{HasTokens, IsRowAt, IsTextOf, label_of, text_of};
 ghost use Rattle.hm_tokens.specs.Ranges.{normal};
@@ -13,23 +14,22 @@ mod texts;
 
 use arrayvec::ArrayString;
 use hm_enc32::decode32;
-use hm_isa::Instr;
+use hm_isa::{Instr, WideRow};
 use hm_text_labels::{label_in, print_with};
 pub use hm_text_rows::Shape;
 use hm_text32_codes::code_in;
+use hm_text32_rows::row_text;
 pub use hm_text32_rows::target;
-use hm_text32_rows::{has_label, row_text};
 use hm_tokens::{Token, single_registers};
-use texts::is_row_at;
+use texts::{has_label_of, is_row_at};
 
 /// The text of a row of two halfwords, no vector row, that stands at `pc`: the first word, a space, and the operands with commas
 /// between them, numbers in decimal, and for a label the address that it names as `0x` and eight digits. `read32` gives the row again.
-pub fn print32(i: &Instr, pc: u32) -> ArrayString<96>
-    requires wide { IsWide i.now }
-    ensures text { result.bytes ≡ text_of i.now (target i.now pc) }
-    ensures read { (labels : List ℕ → Option ℕ) → IsTextOf result.bytes pc labels i.now }
+pub fn print32(row: &WideRow, pc: u32) -> ArrayString<96>
+    ensures text { result.bytes ≡ text_of row.now (target row.now pc) }
+    ensures read { (i : Instr) → by_width i ≡ ByWidth.Wide row.now → (labels : List ℕ → Option ℕ) → IsTextOf result.bytes pc labels i }
 {
-    print_with(&row_text(i), target(i, pc))
+    print_with(&row_text(row), target(row, pc))
 }
 
 /// The last code of 32 bits.
@@ -67,7 +67,7 @@ fn shape_of<'a>(tokens: &[Token<'a>]) -> Option<Shape<'a>>
     ensures only { (i : Instr) (t : Tok) → HasTokens i t (map tok tokens.now) → option_map (λ s. option_map tok s.label) result ≡ Some (label_of i t) }
 {
     let i = row_of(tokens, 0, 4)?;
-    let label = label_in(has_label(&i), tokens);
+    let label = label_in(has_label_of(&i), tokens);
     Some(Shape { label })
 }
 

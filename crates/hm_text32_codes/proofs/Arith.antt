@@ -1,8 +1,6 @@
 -- Shifts, products, quotients and choices: their texts ask for their codes.
-use Rattle.std.proofs.Common.{◌≡◌, ℕ, ◌+◌, ◌*◌, ◌<◌, false, ◌++◌, Some, refl, arith}
+use Rattle.std.proofs.Common.{◌≡◌, ℕ, ◌+◌, ◌*◌, ◌<◌, false, ◌++◌, Some, arith}
 use Rattle.std.specs.Prelude.{codes}
-use Rattle.hm_isa.specs.declared.Instr.TheVariants as instr
-use Rattle.hm_isa.specs.declared.Scalar.TheVariants as scalar
 use Rattle.hm_isa.specs.declared.narrow.ExtendName.{ExtendName}
 use Rattle.hm_isa.specs.declared.arith.AccumulateName.{AccumulateName}
 use Rattle.hm_isa.specs.declared.arith.BitsName.{BitsName}
@@ -37,12 +35,12 @@ asks_wide_shift : (name : WideShiftName) (s n d m : ℕ) → s < 2
 unfolding code_of
 asks_wide_shift name s n d m lt = grind arith
 
-pub row_t8 : (i : T8) → Answers (instr.Scalar (scalar.T8 i)) (three (wide_shift_mnemonic i.name i.s.value ++ wide) (r i.d.value) (r i.n.value) (r i.m.value))
+pub row_t8 : (i : T8) → Answers (code_t8 i) (three (wide_shift_mnemonic i.name i.s.value ++ wide) (r i.d.value) (r i.n.value) (r i.m.value))
 row_t8 i =
-    answers_of _ _ (code_t8 i) _ _
+    answers_of _ _ _ _
     (reads_three _ _ _ _ _ _ _ _ _ _ _ _ (let lt = i.s.in_range in grind arith) suffix_wide (a_register i.d.value i.d.in_range)
     (a_register i.n.value i.n.in_range) (a_register i.m.value i.m.in_range))
-    (asks_wide_shift i.name i.s.value _ _ _ i.s.in_range) refl
+    (asks_wide_shift i.name i.s.value _ _ _ i.s.in_range)
 
 -- T9
 asks_extend : (name : ExtendName) (k d m v : ℕ)
@@ -50,14 +48,14 @@ asks_extend : (name : ExtendName) (k d m v : ℕ)
 unfolding code_of
 asks_extend name k d m v = grind arith
 
-pub row_t9 : (i : T9) → Answers (instr.Scalar (scalar.T9 i))
+pub row_t9 : (i : T9) → Answers (code_t9 i)
     (and_shift (two (extend_mnemonic i.name ++ wide) (r i.d.value) (r i.m.value)) (codes "ror") (8 * i.r.value))
 row_t9 i =
-    answers_of _ _ (code_t9 i) _ _
+    answers_of _ _ _ _
     (reads_two_shift _ _ _ _ _ _ _ _ _ _ _ _ _ (grind arith) suffix_wide (a_register i.d.value i.d.in_range) (a_register i.m.value i.m.in_range)
     (a_kind 3 (omega arith))
     (let lt = i.r.in_range in omega arith))
-    (asks_extend i.name i.r.value _ _ _) refl
+    (asks_extend i.name i.r.value _ _ _)
 
 -- T10
 suffix_bits : (name : BitsName) → Suffix (bits_suffix name) 0
@@ -68,11 +66,11 @@ asks_bits : (name : BitsName) (d m : ℕ) → code_of (bits_mnemonic name) (give
 unfolding code_of
 asks_bits name d m = grind arith
 
-pub row_t10 : (i : T10) → Answers (instr.Scalar (scalar.T10 i)) (two (bits_mnemonic i.name ++ bits_suffix i.name) (r i.d.value) (r i.m.value))
+pub row_t10 : (i : T10) → Answers (code_t10 i) (two (bits_mnemonic i.name ++ bits_suffix i.name) (r i.d.value) (r i.m.value))
 row_t10 i =
-    answers_of _ _ (code_t10 i) _ _
+    answers_of _ _ _ _
     (reads_two _ _ _ _ _ _ _ _ _ (grind arith) (suffix_bits i.name) (a_register i.d.value i.d.in_range) (a_register i.m.value i.m.in_range))
-    (asks_bits i.name _ _) refl
+    (asks_bits i.name _ _)
 
 -- T11
 asks_operation : (name : OperationName) (n d m : ℕ)
@@ -90,25 +88,25 @@ asks_long : (name : LongProductName) (n l h m : ℕ)
 unfolding code_of
 asks_long name n l h m = grind arith
 
-pub row_t11 : (i : T11) → Answers (instr.Scalar (scalar.T11 i)) (product_tokens i)
+pub row_t11 : (i : T11) → Answers (code_t11 i) (product_tokens i)
 row_t11 (t11.Operation i) =
-    answers_of _ _ (code_t11 (t11.Operation i)) _ _
+    answers_of _ _ _ _
     (bare (λ name. three name (r i.d.value) (r i.n.value) (r i.m.value)) (operation_mnemonic i.name) _
     (reads_three _ _ _ _ _ _ _ _ _ _ _ _ (grind arith) no_suffix (a_register i.d.value i.d.in_range) (a_register i.n.value i.n.in_range)
     (a_register i.m.value i.m.in_range)))
-    (asks_operation i.name _ _ _) refl
+    (asks_operation i.name _ _ _)
 row_t11 (t11.Accumulate i) =
-    answers_of _ _ (code_t11 (t11.Accumulate i)) _ _
+    answers_of _ _ _ _
     (bare (λ name. four name (r i.d.value) (r i.n.value) (r i.m.value) (r i.a.value)) (accumulate_mnemonic i.name) _
     (reads_four _ _ _ _ _ _ _ _ _ _ _ _ _ _ _ (grind arith) no_suffix (a_register i.d.value i.d.in_range) (a_register i.n.value i.n.in_range)
     (a_register i.m.value i.m.in_range) (a_register i.a.value i.a.in_range)))
-    (asks_accumulate i.name _ _ _ _) refl
+    (asks_accumulate i.name _ _ _ _)
 row_t11 (t11.Long i) =
-    answers_of _ _ (code_t11 (t11.Long i)) _ _
+    answers_of _ _ _ _
     (bare (λ name. four name (r i.l.value) (r i.h.value) (r i.n.value) (r i.m.value)) (long_mnemonic i.name) _
     (reads_four _ _ _ _ _ _ _ _ _ _ _ _ _ _ _ (grind arith) no_suffix (a_register i.l.value i.l.in_range) (a_register i.h.value i.h.in_range)
     (a_register i.n.value i.n.in_range) (a_register i.m.value i.m.in_range)))
-    (asks_long i.name _ _ _ _) refl
+    (asks_long i.name _ _ _ _)
 
 -- T20
 asks_select : (name : SelectName) (n d c m : ℕ)
@@ -116,11 +114,11 @@ asks_select : (name : SelectName) (n d c m : ℕ)
 unfolding code_of
 asks_select name n d c m = grind arith
 
-pub row_t20 : (i : T20) → Answers (instr.Scalar (scalar.T20 i))
+pub row_t20 : (i : T20) → Answers (code_t20 i)
     (four (select_mnemonic i.name) (r i.d.value) (or_zero i.n.value) (or_zero i.m.value) (word (condition_name i.c.value)))
 row_t20 i =
-    answers_of _ _ (code_t20 i) _ _
+    answers_of _ _ _ _
     (bare (λ name. four name (r i.d.value) (or_zero i.n.value) (or_zero i.m.value) (word (condition_name i.c.value))) (select_mnemonic i.name) _
     (reads_four _ _ _ _ _ _ _ _ _ _ _ _ _ _ _ (grind arith) no_suffix (a_register i.d.value i.d.in_range) (a_register_or_zero i.n.value i.n.in_range)
     (a_register_or_zero i.m.value i.m.in_range) (a_condition i.c.value i.c.in_range)))
-    (asks_select i.name _ _ _ _) refl
+    (asks_select i.name _ _ _ _)

@@ -1,8 +1,8 @@
 -- What is proved of each row: its text asks for its code, and is printed and read back.
 use Rattle.std.proofs.Common.{◌≡◌, ℕ, ◌^◌, ◌<◌, Bool, true, false, cond, List, [], ◌∷◌, ◌++◌, Option, Some, None, refl, sym, subst}
 use Rattle.std.specs.Option.{option_or}
-use Rattle.hm_isa.specs.declared.Instr.{Instr}
-use Rattle.hm_layout.specs.Wide.{HasWord}
+use Rattle.hm_isa.specs.declared.widths.WideRow.{WideRow}
+use Rattle.hm_isa.specs.Code.{wide_code}
 use Rattle.hm_tokens.specs.Tokens.{Tok, word}
 use Rattle.hm_text_rows.specs.Labels.{IsLabel, Reaches}
 use Rattle.hm_text_rows.proofs.Printed.{IsPrinted, IsPrintedAt}
@@ -15,21 +15,17 @@ use Rattle.hm_text32_rows.specs.Rows.{has_label, row_tokens, tokens_of}
 use Rattle.hm_text32_rows.specs.Targets.{target}
 use Rattle.hm_text32_codes.proofs.Forms.{Answers}
 
--- tokens without a label ask for a row's code, and are printed and read back
-pub record Asks (i : Instr) (ts : List Tok) : Type 0 where
-  pub code : ℕ
-  pub has : HasWord i code
-  pub asks : (pc a : ℕ) → code_in ts pc a ≡ Some code
+-- tokens without a label ask for the code w, and are printed and read back
+pub record Asks (w : ℕ) (ts : List Tok) : Type 0 where
+  pub asks : (pc a : ℕ) → code_in ts pc a ≡ Some w
   pub prints : IsPrinted ts
 
 or_some : (o p : Option ℕ) (w : ℕ) → o ≡ Some w → option_or o p ≡ Some w
 or_some o p w e = rw e refl
 
-pub of_plain : (i : Instr) (ts : List Tok) → Answers i ts → Asks i ts
-of_plain i ts answers = record {
-  code = answers.code;
-  has = answers.has;
-  asks = λ pc a. or_some (plain_code_in ts) (option_or (memory_code_in ts) (label_code_in ts pc a)) answers.code answers.asks;
+pub of_plain : (w : ℕ) (ts : List Tok) → Answers w ts → Asks w ts
+of_plain w ts answers = record {
+  asks = λ pc a. or_some (plain_code_in ts) (option_or (memory_code_in ts) (label_code_in ts pc a)) w answers.asks;
   prints = answers.prints;
 }
 
@@ -47,30 +43,26 @@ pub asks_label : (s f : List ℕ) (us : List Tok) (pc a w : ℕ) → is_mnemonic
 asks_label s f us pc a w mnemonic behind none memory e = rw (cut s f mnemonic behind, none (read_operands f us), memory, e) refl
 
 -- ROWS
-pub record Row (i : Instr) : Type 0 where
-  pub code : ℕ
-  pub has : HasWord i code
-  pub asks : (t : Tok) (pc a : ℕ) → IsLabel t → pc < 2 ^ 32 → a < 2 ^ 32 → Reaches (target i pc) a → code_in (tokens_of i t) pc a ≡ Some code
-  pub prints : IsPrintedRow (has_label i) (row_tokens i)
+-- the text of a row asks for its code, and is printed and read back
+pub record Row (r : WideRow) : Type 0 where
+  pub asks : (t : Tok) (pc a : ℕ) → IsLabel t → pc < 2 ^ 32 → a < 2 ^ 32 → Reaches (target r pc) a → code_in (tokens_of r t) pc a ≡ Some (wide_code r)
+  pub prints : IsPrintedRow (has_label r) (row_tokens r)
 
 -- of a row with no label
-pub plain_row : (i : Instr) (ts : List Tok) → has_label i ≡ false → row_tokens i ≡ ts → Asks i ts → Row i
-plain_row i ts plain is asks = record {
-  code = asks.code;
-  has = asks.has;
+pub plain_row : (r : WideRow) → has_label r ≡ false → Asks (wide_code r) (row_tokens r) → Row r
+plain_row r plain asks = record {
   asks =
-      λ t pc a l hp ha re. subst (λ (b : Bool). code_in (cond b (row_tokens i ++ t ∷ []) (row_tokens i)) pc a ≡ Some asks.code) (sym plain)
-      (subst (λ (us : List Tok). code_in us pc a ≡ Some asks.code) (sym is) (asks.asks pc a));
-  prints = subst (λ (b : Bool). IsPrintedRow b (row_tokens i)) (sym plain) (subst (λ (us : List Tok). IsPrinted us) (sym is) asks.prints);
+      λ t pc a l hp ha re. subst (λ (b : Bool). code_in (cond b (row_tokens r ++ t ∷ []) (row_tokens r)) pc a ≡ Some (wide_code r)) (sym plain)
+      (asks.asks pc a);
+  prints = subst (λ (b : Bool). IsPrintedRow b (row_tokens r)) (sym plain) asks.prints;
 }
 
 -- and of one with a label
-pub label_row : (i : Instr) (w : ℕ) → has_label i ≡ true → HasWord i w → IsPrintedAt (row_tokens i)
-    → ((t : Tok) (pc a : ℕ) → IsLabel t → pc < 2 ^ 32 → Reaches (target i pc) a → code_in (row_tokens i ++ t ∷ []) pc a ≡ Some w) → Row i
-label_row i w yes_ has prints e = record {
-  code = w;
-  has = has;
+pub label_row : (r : WideRow) → has_label r ≡ true → IsPrintedAt (row_tokens r)
+    → ((t : Tok) (pc a : ℕ) → IsLabel t → pc < 2 ^ 32 → Reaches (target r pc) a → code_in (row_tokens r ++ t ∷ []) pc a ≡ Some (wide_code r)) → Row r
+label_row r yes_ prints e = record {
   asks =
-      λ t pc a l hp ha re. subst (λ (b : Bool). code_in (cond b (row_tokens i ++ t ∷ []) (row_tokens i)) pc a ≡ Some w) (sym yes_) (e t pc a l hp re);
-  prints = subst (λ (b : Bool). IsPrintedRow b (row_tokens i)) (sym yes_) prints;
+      λ t pc a l hp ha re. subst (λ (b : Bool). code_in (cond b (row_tokens r ++ t ∷ []) (row_tokens r)) pc a ≡ Some (wide_code r)) (sym yes_)
+      (e t pc a l hp re);
+  prints = subst (λ (b : Bool). IsPrintedRow b (row_tokens r)) (sym yes_) prints;
 }

@@ -3,9 +3,6 @@ use Rattle.std.proofs.Common.{◌≡◌, ℕ, ◌+◌, ◌-◌, ◌*◌, ◌/◌
 use Rattle.std.specs.Prelude.{codes, nat_eq, nat_le, not, ◌&&◌}
 use Rattle.std.proofs.lemmas.Bool.{and_parts, cases_Bool, eqb-true}
 use Rattle.std.proofs.lemmas.Bool.Decides.{nat_tests}
-use Rattle.hm_isa.specs.declared.Instr.{Instr}
-use Rattle.hm_isa.specs.declared.Instr.TheVariants as instr
-use Rattle.hm_isa.specs.declared.Scalar.TheVariants as scalar
 use Rattle.hm_isa.specs.declared.narrow.SumName.{SumName}
 use Rattle.hm_isa.specs.declared.data.ExtractName.{ExtractName}
 use Rattle.hm_isa.specs.declared.data.HalfName.{HalfName}
@@ -15,11 +12,10 @@ use Rattle.hm_isa.specs.declared.data.T4.{T4}
 use Rattle.hm_isa.specs.declared.data.T5.{T5}
 use Rattle.hm_isa.specs.declared.data.T6.{T6}
 use Rattle.hm_isa.specs.declared.data.T7.{T7}
-use Rattle.hm_isa.specs.DataCodes.{code_t3, code_t4, code_t5, code_t6, extract_base, half_base, saturate_base, wide_sum_base}
+use Rattle.hm_isa.specs.DataCodes.{code_t3, code_t4, code_t5, code_t6, code_t7, extract_base, half_base, saturate_base, wide_sum_base}
 use Rattle.hm_isa.specs.Rules.{is_general}
 use Rattle.hm_isa.specs.Standing.{◌↑◌}
 use Rattle.hm_isa.specs.Words.{imm12, imm16, imm5}
-use Rattle.hm_layout.specs.Wide.{HasWord}
 use Rattle.hm_tokens.specs.Tokens.{Tok}
 use Rattle.hm_text32_codes.specs.Codes.{code_of}
 use Rattle.hm_text32_rows.specs.Rows.{insert_tokens, saturate_tokens, saturated_bits}
@@ -47,11 +43,11 @@ twelve_middle i j l hi hj hl = omega arith
 twelve_low : (i j l : ℕ) → i < 2 → j < 8 → l < 256 → imm12 i j l % 256 ≡ l
 twelve_low i j l hi hj hl = omega arith
 
-pub row_t3 : (i : T3) → Answers (instr.Scalar (scalar.T3 i))
+pub row_t3 : (i : T3) → Answers (code_t3 i)
     (and_constant (two (wide_sum_mnemonic i.name) (r i.d.value) (r i.n.value)) (imm12 i.i.value i.i3.value i.i8.value))
 row_t3 i =
     let x = imm12 i.i.value i.i3.value i.i8.value in
-    answers_of _ _ (code_t3 i) _ _
+    answers_of _ _ _ _
     (bare (λ name. and_constant (two name (r i.d.value) (r i.n.value)) x) (wide_sum_mnemonic i.name) _
     (reads_two_constant _ _ _ _ _ _ _ _ _ _ (grind arith) no_suffix (a_register i.d.value i.d.in_range) (a_register i.n.value i.n.in_range)
     (twelve_small i.i.value i.i3.value i.i8.value i.i.in_range i.i3.in_range i.i8.in_range)))
@@ -59,7 +55,6 @@ row_t3 i =
     (twelve_high i.i.value i.i3.value i.i8.value i.i.in_range i.i3.in_range i.i8.in_range)
     (twelve_middle i.i.value i.i3.value i.i8.value i.i.in_range i.i3.in_range i.i8.in_range)
     (twelve_low i.i.value i.i3.value i.i8.value i.i.in_range i.i3.in_range i.i8.in_range))
-    refl
 
 -- T4
 asks_half : (name : HalfName) (h i j l d x : ℕ) → x / 4096 ≡ h → x / 2048 % 2 ≡ i → x / 256 % 8 ≡ j → x % 256 ≡ l
@@ -82,11 +77,11 @@ sixteen_middle h i j l hh hi hj hl = omega arith
 sixteen_low : (h i j l : ℕ) → h < 16 → i < 2 → j < 8 → l < 256 → imm16 h i j l % 256 ≡ l
 sixteen_low h i j l hh hi hj hl = omega arith
 
-pub row_t4 : (i : T4) → Answers (instr.Scalar (scalar.T4 i))
+pub row_t4 : (i : T4) → Answers (code_t4 i)
     (and_constant (one (half_mnemonic i.name) (r i.d.value)) (imm16 i.i4.value i.i.value i.i3.value i.i8.value))
 row_t4 i =
     let x = imm16 i.i4.value i.i.value i.i3.value i.i8.value in
-    answers_of _ _ (code_t4 i) _ _
+    answers_of _ _ _ _
     (bare (λ name. and_constant (one name (r i.d.value)) x) (half_mnemonic i.name) _
     (reads_one_constant _ _ _ _ _ _ _ (grind arith) no_suffix (a_register i.d.value i.d.in_range)
     (sixteen_small i.i4.value i.i.value i.i3.value i.i8.value i.i4.in_range i.i.in_range i.i3.in_range i.i8.in_range)))
@@ -95,7 +90,6 @@ row_t4 i =
     (sixteen_high i.i4.value i.i.value i.i3.value i.i8.value i.i4.in_range i.i.in_range i.i3.in_range i.i8.in_range)
     (sixteen_middle i.i4.value i.i.value i.i3.value i.i8.value i.i4.in_range i.i.in_range i.i3.in_range i.i8.in_range)
     (sixteen_low i.i4.value i.i.value i.i3.value i.i8.value i.i4.in_range i.i.in_range i.i3.in_range i.i8.in_range))
-    refl
 
 -- NUMBERS OF FIVE BITS
 five_high : (j l : ℕ) → l < 4 → imm5 j l / 4 ≡ j
@@ -121,19 +115,18 @@ asks_saturate : (name : SaturateName) (h j l s n d v x : ℕ) → v / 2 ≡ h �
 unfolding code_of
 asks_saturate name h j l s n d v x e f g = grind arith
 
-pub row_t5 : (i : T5) → Answers (instr.Scalar (scalar.T5 i)) (saturate_tokens i)
+pub row_t5 : (i : T5) → Answers (code_t5 i) (saturate_tokens i)
 row_t5 i =
     let h = i.sh.value in
     let j = i.i3.value in
     let l = i.i2.value in
-    answers_of _ _ (code_t5 i) _ _
+    answers_of _ _ _ _
     (bare (λ name. and_turn (and_operand (and_constant (one name (r i.d.value)) (saturated_bits i.name i.s.value)) (r i.n.value))
     (saturate_shift h) (imm5 j l)) (saturate_mnemonic i.name) _
     (reads_saturate _ _ _ _ _ _ _ _ _ _ _ _ _ _ (grind arith) no_suffix (a_register i.d.value i.d.in_range)
     (bits_small i.name i.s.value i.s.in_range)
     (a_register i.n.value i.n.in_range) (let lt = i.sh.in_range in a_kind (2 * h) (omega arith)) (five_small j l i.i3.in_range i.i2.in_range)))
     (asks_saturate i.name h j l i.s.value _ _ _ (imm5 j l) (kind_told h) (five_high j l i.i2.in_range) (five_low j l i.i2.in_range))
-    refl
 
 -- T6
 asks_extract : (name : ExtractName) (j l w n d x : ℕ) → x / 4 ≡ j → x % 4 ≡ l
@@ -141,17 +134,16 @@ asks_extract : (name : ExtractName) (j l w n d x : ℕ) → x / 4 ≡ j → x % 
 unfolding code_of
 asks_extract name j l w n d x e f = grind arith
 
-pub row_t6 : (i : T6) → Answers (instr.Scalar (scalar.T6 i))
+pub row_t6 : (i : T6) → Answers (code_t6 i)
     (and_constant (and_constant (two (extract_mnemonic i.name) (r i.d.value) (r i.n.value)) (imm5 i.i3.value i.i2.value)) (i.w.value + 1))
 row_t6 i =
     let j = i.i3.value in
     let l = i.i2.value in
-    answers_of _ _ (code_t6 i) _ _
+    answers_of _ _ _ _
     (bare (λ name. and_constant (and_constant (two name (r i.d.value) (r i.n.value)) (imm5 j l)) (i.w.value + 1)) (extract_mnemonic i.name) _
     (reads_two_constants _ _ _ _ _ _ _ _ _ _ _ (grind arith) no_suffix (a_register i.d.value i.d.in_range) (a_register i.n.value i.n.in_range)
     (five_small j l i.i3.in_range i.i2.in_range) (let lt = i.w.in_range in omega arith)))
     (asks_extract i.name j l i.w.value _ _ (imm5 j l) (five_high j l i.i2.in_range) (five_low j l i.i2.in_range))
-    refl
 
 -- T7
 abbrev insert_sum : ℕ → ℕ → ℕ → ℕ → ℕ → ℕ
@@ -172,25 +164,25 @@ no_more_than m n e = grind (arith, nat_tests)
 abbrev inserted : ℕ → ℕ → ℕ → ℕ → List Tok
 inserted n d x y = and_constant (and_constant (cond (nat_eq n 15) (one (codes "bfc") (r d)) (two (codes "bfi") (r d) (r n))) x) y
 
-insert_answers : (k : Instr) (n d j l e : ℕ) → n < 16 → d < 16 → j < 8 → l < 4 → e < 32 → imm5 j l ≤ e → HasWord k (insert_sum n d j l e)
-    → Answers k (inserted n d (imm5 j l) (e + 1 - imm5 j l))
-insert_answers k n d j l e hn hd hj hl he le has =
+insert_answers : (n d j l e : ℕ) → n < 16 → d < 16 → j < 8 → l < 4 → e < 32 → imm5 j l ≤ e
+    → Answers (insert_sum n d j l e) (inserted n d (imm5 j l) (e + 1 - imm5 j l))
+insert_answers n d j l e hn hd hj hl he le =
     elim (cases_Bool (eqb n 15)) [
       | inl none ↦
           rw none
-          (answers_of k _ (insert_sum n d j l e) (codes "bfc") _
+          (answers_of _ (insert_sum n d j l e) (codes "bfc") _
           (reads_one_constants (codes "bfc") _ _ _ _ _ _ _ refl no_suffix (a_register d hd) (five_small j l hj hl) (omega arith))
-          (asks_bfc n d j l e (imm5 j l) (eqb-true n 15 none) (five_high j l hl) (five_low j l hl) le) has)
+          (asks_bfc n d j l e (imm5 j l) (eqb-true n 15 none) (five_high j l hl) (five_low j l hl) le))
       | inr some ↦
           rw some
-          (answers_of k _ (insert_sum n d j l e) (codes "bfi") _
+          (answers_of _ (insert_sum n d j l e) (codes "bfi") _
           (reads_two_constants (codes "bfi") _ _ _ _ _ _ _ _ _ _ refl no_suffix (a_register d hd) (a_register n hn) (five_small j l hj hl) (omega arith))
-          (asks_bfi n d j l e (imm5 j l) (five_high j l hl) (five_low j l hl) le) has)
+          (asks_bfi n d j l e (imm5 j l) (five_high j l hl) (five_low j l hl) le))
     ]
 
-pub row_t7 : (i : T7) → Answers (instr.Scalar (scalar.T7 i)) (insert_tokens i)
+pub row_t7 : (i : T7) → Answers (code_t7 i) (insert_tokens i)
 row_t7 i =
     let parts = and_parts (not (nat_eq i.n.value 13) && is_general i.d.value) (nat_le (imm5 i.i3.value i.i2.value) i.e.value) i.rules in
     let within = no_more_than _ _ parts.1 in
-    insert_answers _ i.n.value i.d.value i.i3.value i.i2.value i.e.value i.n.in_range i.d.in_range i.i3.in_range i.i2.in_range i.e.in_range
-    (omega (arith, within)) refl
+    insert_answers i.n.value i.d.value i.i3.value i.i2.value i.e.value i.n.in_range i.d.in_range i.i3.in_range i.i2.in_range i.e.in_range
+    (omega (arith, within))

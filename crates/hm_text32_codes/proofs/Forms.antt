@@ -3,8 +3,6 @@ use Rattle.std.proofs.Common.{◌≡◌, ℕ, ◌^◌, ◌<◌, Bool, true, fals
 use Rattle.std.proofs.lemmas.List.{append-nil}
 use Rattle.std.proofs.lemmas.Bool.{agree_below_at, cases_Bool, eqb-true}
 use Rattle.std.specs.Prelude.{cond, codes, min, nat_eq}
-use Rattle.hm_isa.specs.declared.Instr.{Instr}
-use Rattle.hm_layout.specs.Wide.{HasWord}
 use Rattle.hm_tokens.specs.Names.{condition_name, register_name, vector_name}
 use Rattle.hm_tokens.specs.Tokens.{Tok, word, comma}
 use Rattle.hm_text32_codes.specs.declared.operands.Operands.{Operands}
@@ -22,15 +20,13 @@ pub record Reads (ts : List Tok) (s : List ℕ) (o : Operands) : Type 0 where
   pub asks : plain_code_in ts ≡ code_of s o
   pub prints : IsPrinted ts
 
--- a text asks for a row's code, and is printed and read back
-pub record Answers (i : Instr) (ts : List Tok) : Type 0 where
-  pub code : ℕ
-  pub asks : plain_code_in ts ≡ Some code
-  pub has : HasWord i code
+-- a text asks for the code w, and is printed and read back
+pub record Answers (w : ℕ) (ts : List Tok) : Type 0 where
+  pub asks : plain_code_in ts ≡ Some w
   pub prints : IsPrinted ts
 
-pub answers_of : (i : Instr) (ts : List Tok) (w : ℕ) (s : List ℕ) (o : Operands) → Reads ts s o → code_of s o ≡ Some w → HasWord i w → Answers i ts
-answers_of i ts w s o reads e has = record { code = w; asks = reads.asks ∙ e; has = has; prints = reads.prints }
+pub answers_of : (ts : List Tok) (w : ℕ) (s : List ℕ) (o : Operands) → Reads ts s o → code_of s o ≡ Some w → Answers w ts
+answers_of ts w s o reads e = record { asks = reads.asks ∙ e; prints = reads.prints }
 
 -- whether the second and the third are numbers, whether there are operands, the size, whether the first is a vector register
 abbrev pub given_with : Bool → Bool → Bool → ℕ → Bool → ℕ → ℕ → ℕ → ℕ → ℕ → Operands

@@ -5,16 +5,12 @@ use Rattle.std.specs.Prelude.{nat_eq, nat_le, nat_lt, ◌&&◌, ◌||◌}
 use Rattle.std.proofs.Math.Bool.{or-true}
 use Rattle.std.proofs.lemmas.Bool.{agree_below, and_parts, cases_Bool, eqb-true, ne_eqb}
 use Rattle.std.proofs.lemmas.Bool.Decides.{nat_tests}
-use Rattle.hm_isa.specs.declared.Instr.{Instr}
-use Rattle.hm_isa.specs.declared.Instr.TheVariants as instr
-use Rattle.hm_isa.specs.declared.Scalar.TheVariants as scalar
 use Rattle.hm_isa.specs.declared.data.DataName.{DataName}
 use Rattle.hm_isa.specs.declared.data.DataName.TheVariants as data_
 use Rattle.hm_isa.specs.declared.data.T1.{T1}
-use Rattle.hm_isa.specs.DataCodes.{data_operation}
+use Rattle.hm_isa.specs.DataCodes.{code_t1, data_operation}
 use Rattle.hm_isa.specs.DataRules.{is_constant, is_first, is_result, may_test}
 use Rattle.hm_isa.specs.Standing.{◌↑◌}
-use Rattle.hm_layout.specs.Wide.{HasWord}
 use Rattle.hm_isa.specs.Words.{expand_imm_c, imm12, repeats}
 use Rattle.hm_text32_codes.specs.Codes.{code_of, constant_code, constant_field, data_base, shift_of}
 use Rattle.hm_text32_rows.specs.Rows.{constant_in, constant_tokens}
@@ -188,73 +184,64 @@ some_sum : (op s n d i i3 i8 : ℕ) → Fields s n d i i3 i8
     → Some (constant_code (0xea000000 + op ↑ 21 + s ↑ 20) n d (constant_field (constant_in i i3 i8))) ≡ Some (constant_sum op s n d i i3 i8)
 some_sum op s n d i i3 i8 is = ap (λ (w : ℕ). Some w) (read_sum op s n d i i3 i8 is)
 
-data_answers : (k : Instr) (name : DataName) (s n d i i3 i8 : ℕ) → Fields s n d i i3 i8 → HasWord k (constant_sum (data_operation name) s n d i i3 i8)
-    → Answers k (and_constant (two (data_mnemonic name s ++ wide) (r d) (r n)) (constant_in i i3 i8))
-data_answers k name s n d i i3 i8 is has =
-    answers_of k _ (constant_sum (data_operation name) s n d i i3 i8) (data_mnemonic name s) _
+data_answers : (name : DataName) (s n d i i3 i8 : ℕ) → Fields s n d i i3 i8
+    → Answers (constant_sum (data_operation name) s n d i i3 i8) (and_constant (two (data_mnemonic name s ++ wide) (r d) (r n)) (constant_in i i3 i8))
+data_answers name s n d i i3 i8 is =
+    answers_of _ _ (data_mnemonic name s) _
     (reads_two_constant (data_mnemonic name s) wide _ _ _ _ _ _ _ _ (mnemonic_data name s is.flag) suffix_wide (a_register d is.result) (a_register n is.first)
     (expanded_small (imm12 i i3 i8)))
     (asks_data name s is.flag n d _ ∙ some_sum (data_operation name) s n d i i3 i8 is)
-    has
 
-test_answers : (k : Instr) (name : DataName) (n i i3 i8 : ℕ) → Fields 1 n 15 i i3 i8 → may_test name ≡ true
-    → HasWord k (constant_sum (data_operation name) 1 n 15 i i3 i8)
-    → Answers k (and_constant (one (test_mnemonic name ++ wide) (r n)) (constant_in i i3 i8))
-test_answers k name n i i3 i8 is may has =
-    answers_of k _ (constant_sum (data_operation name) 1 n 15 i i3 i8) (test_mnemonic name) _
+test_answers : (name : DataName) (n i i3 i8 : ℕ) → Fields 1 n 15 i i3 i8 → may_test name ≡ true
+    → Answers (constant_sum (data_operation name) 1 n 15 i i3 i8) (and_constant (one (test_mnemonic name ++ wide) (r n)) (constant_in i i3 i8))
+test_answers name n i i3 i8 is may =
+    answers_of _ _ (test_mnemonic name) _
     (reads_one_constant (test_mnemonic name) wide _ _ _ _ _ (grind arith) suffix_wide (a_register n is.first) (expanded_small (imm12 i i3 i8)))
     (asks_test name n _ may ∙ some_sum (data_operation name) 1 n 15 i i3 i8 is)
-    has
 
-move_answers : (k : Instr) (s d i i3 i8 : ℕ) → Fields s 15 d i i3 i8 → HasWord k (constant_sum 2 s 15 d i i3 i8)
-    → Answers k (and_constant (one (move_mnemonic data_.Orr s ++ wide) (r d)) (constant_in i i3 i8))
-move_answers k s d i i3 i8 is has =
-    answers_of k _ (constant_sum 2 s 15 d i i3 i8) (move_mnemonic data_.Orr s) _
+move_answers : (s d i i3 i8 : ℕ) → Fields s 15 d i i3 i8
+    → Answers (constant_sum 2 s 15 d i i3 i8) (and_constant (one (move_mnemonic data_.Orr s ++ wide) (r d)) (constant_in i i3 i8))
+move_answers s d i i3 i8 is =
+    answers_of _ _ (move_mnemonic data_.Orr s) _
     (reads_one_constant (move_mnemonic data_.Orr s) wide _ _ _ _ _ (let lt = is.flag in grind arith) suffix_wide (a_register d is.result)
     (expanded_small (imm12 i i3 i8)))
     (asks_move s d _ is.flag ∙ some_sum 2 s 15 d i i3 i8 is)
-    has
 
-not_answers : (k : Instr) (s d i i3 i8 : ℕ) → Fields s 15 d i i3 i8 → HasWord k (constant_sum 3 s 15 d i i3 i8)
-    → Answers k (and_constant (one (move_mnemonic data_.Orn s ++ wide) (r d)) (constant_in i i3 i8))
-not_answers k s d i i3 i8 is has =
-    answers_of k _ (constant_sum 3 s 15 d i i3 i8) (move_mnemonic data_.Orn s) _
+not_answers : (s d i i3 i8 : ℕ) → Fields s 15 d i i3 i8
+    → Answers (constant_sum 3 s 15 d i i3 i8) (and_constant (one (move_mnemonic data_.Orn s ++ wide) (r d)) (constant_in i i3 i8))
+not_answers s d i i3 i8 is =
+    answers_of _ _ (move_mnemonic data_.Orn s) _
     (reads_one_constant (move_mnemonic data_.Orn s) wide _ _ _ _ _ (let lt = is.flag in grind arith) suffix_wide (a_register d is.result)
     (expanded_small (imm12 i i3 i8)))
     (asks_not s d _ is.flag ∙ some_sum 3 s 15 d i i3 i8 is)
-    has
 
-single_answers : (k : Instr) (name : DataName) (s d i i3 i8 : ℕ) → Fields s 15 d i i3 i8 → is_first name 15 ≡ true
-    → HasWord k (constant_sum (data_operation name) s 15 d i i3 i8)
-    → Answers k (and_constant (one (move_mnemonic name s ++ wide) (r d)) (constant_in i i3 i8))
-single_answers k data_.Orr s d i i3 i8 is e has = move_answers k s d i i3 i8 is has
-single_answers k data_.Orn s d i i3 i8 is e has = not_answers k s d i i3 i8 is has
-single_answers k name s d i i3 i8 is e has = absurd cc
+single_answers : (name : DataName) (s d i i3 i8 : ℕ) → Fields s 15 d i i3 i8 → is_first name 15 ≡ true
+    → Answers (constant_sum (data_operation name) s 15 d i i3 i8) (and_constant (one (move_mnemonic name s ++ wide) (r d)) (constant_in i i3 i8))
+single_answers data_.Orr s d i i3 i8 is e = move_answers s d i i3 i8 is
+single_answers data_.Orn s d i i3 i8 is e = not_answers s d i i3 i8 is
+single_answers name s d i i3 i8 is e = absurd cc
 
-row_answers : (k : Instr) (name : DataName) (s n d i i3 i8 : ℕ) → Fields s n d i i3 i8 → is_first name n ≡ true → is_result name s n d ≡ true
-    → HasWord k (constant_sum (data_operation name) s n d i i3 i8) → Answers k (constant_tokens name s n d (constant_in i i3 i8))
-row_answers k name s n d i i3 i8 is first result has =
+row_answers : (name : DataName) (s n d i i3 i8 : ℕ) → Fields s n d i i3 i8 → is_first name n ≡ true → is_result name s n d ≡ true
+    → Answers (constant_sum (data_operation name) s n d i i3 i8) (constant_tokens name s n d (constant_in i i3 i8))
+row_answers name s n d i i3 i8 is first result =
     elim (cases_Bool (eqb d 15)) [
       | inl f ↦
           let none = eqb-true d 15 f in
           let rule = and_parts (nat_eq s 1) (may_test name) (rw none at result) in
           let flag = eqb-true s 1 rule.0 in
-          rw f (test_answers k name n i i3 i8 (rw (none, flag) at is) rule.1 (rw (none, flag) at has))
+          rw (f, none, flag) (test_answers name n i i3 i8 (rw (none, flag) at is) rule.1)
       | inr f ↦
           elim (cases_Bool (eqb n 15)) [
-            | inl g ↦
-                let none = eqb-true n 15 g in
-                rw (f, g) (single_answers k name s d i i3 i8 (rw none at is) (rw none at first) (rw none at has))
-            | inr g ↦ rw (f, g) (data_answers k name s n d i i3 i8 is has)
+            | inl g ↦ let none = eqb-true n 15 g in rw (f, g, none) (single_answers name s d i i3 i8 (rw none at is) (rw none at first))
+            | inr g ↦ rw (f, g) (data_answers name s n d i i3 i8 is)
           ]
     ]
 
-pub row_t1 : (i : T1) → Answers (instr.Scalar (scalar.T1 i))
-    (constant_tokens i.name i.s.value i.n.value i.d.value (constant_in i.i.value i.i3.value i.i8.value))
+pub row_t1 : (i : T1) → Answers (code_t1 i) (constant_tokens i.name i.s.value i.n.value i.d.value (constant_in i.i.value i.i3.value i.i8.value))
 row_t1 i =
     let rules = and_parts (is_first i.name i.n.value && is_result i.name i.s.value i.n.value i.d.value) (is_constant i.i.value i.i3.value i.i8.value) i.rules in
     let registers = and_parts (is_first i.name i.n.value) (is_result i.name i.s.value i.n.value i.d.value) rules.0 in
-    row_answers _ i.name i.s.value i.n.value i.d.value i.i.value i.i3.value i.i8.value
+    row_answers i.name i.s.value i.n.value i.d.value i.i.value i.i3.value i.i8.value
     (record {
       flag = i.s.in_range;
       first = i.n.in_range;
@@ -264,4 +251,4 @@ row_t1 i =
       low = i.i8.in_range;
       constant = rules.1;
     })
-    registers.0 registers.1 refl
+    registers.0 registers.1

@@ -4,8 +4,7 @@ use Rattle.std.proofs.Common.{inl, inr, arith}
 use Rattle.std.specs.Prelude.{codes, is_none, nat_eq, nat_lt}
 use Rattle.std.proofs.lemmas.Bool.{cases_Bool}
 use Rattle.std.proofs.lemmas.Bool.Decides.{nat_tests}
-use Rattle.hm_isa.specs.declared.Instr.TheVariants as instr
-use Rattle.hm_isa.specs.declared.Branch.TheVariants as branch
+use Rattle.hm_isa.specs.declared.widths.WideRow.TheVariants as wide_row
 use Rattle.hm_isa.specs.declared.jumps.LoopEnd.{LoopEnd}
 use Rattle.hm_isa.specs.declared.jumps.LoopEndName.{LoopEndName}
 use Rattle.hm_isa.specs.declared.jumps.LoopEndName.TheVariants as loop_end
@@ -18,7 +17,7 @@ use Rattle.hm_isa.specs.declared.jumps.WideBranchName.TheVariants as wide_branch
 use Rattle.hm_isa.specs.declared.jumps.WideConditional.{WideConditional}
 use Rattle.hm_isa.specs.declared.jumps.Wls.{Wls}
 use Rattle.hm_isa.specs.declared.jumps.Wlstp.{Wlstp}
-use Rattle.hm_isa.specs.JumpCodes.{code_loop_end, code_wide_always, code_wide_conditional, code_wls, code_wlstp, loop_end_base, wide_branch_base}
+use Rattle.hm_isa.specs.JumpCodes.{code_wide_always, code_wide_conditional, code_wls, code_wlstp, loop_end_base, wide_branch_base}
 use Rattle.hm_isa.specs.Standing.{◌↑◌}
 use Rattle.hm_isa.specs.Words.{sign_extended}
 use Rattle.hm_isa.specs.Distances.{alike, wide_always_distance, wide_conditional_distance}
@@ -120,9 +119,9 @@ conditional_asks i pc a hp e =
     ∙ near_sum i.s.value i.j2.value i.j1.value i.i6.value i.i11.value signed.more i.s.in_range i.j2.in_range i.j1.in_range i.i6.in_range i.i11.in_range
     i.c.value
 
-row_conditional : (i : WideConditional) → Row (instr.Branch (branch.T16 (t16.Conditional i)))
+row_conditional : (i : WideConditional) → Row (wide_row.T16 (t16.Conditional i))
 row_conditional i =
-    label_row (instr.Branch (branch.T16 (t16.Conditional i))) (code_wide_conditional i) refl refl
+    label_row (wide_row.T16 (t16.Conditional i)) refl
     (is_printed_at (branch_mnemonic i.c.value) wide [] (mnemonic_branch i.c.value i.c.in_range) refl tt refl refl (omega arith) refl)
     (λ t pc a l hp re.
     asks_label (branch_mnemonic i.c.value) wide (t ∷ []) pc a (code_wide_conditional i) (mnemonic_branch i.c.value i.c.in_range) refl
@@ -198,18 +197,18 @@ unfolding code_of code_of_memory code_of_label
 always wide_branch.B = record { mnemonic = refl; suffix = refl; none = λ o. refl; access = λ us. refl; asks = λ f us pc a. refl }
 always wide_branch.Bl = record { mnemonic = refl; suffix = refl; none = λ o. refl; access = λ us. refl; asks = λ f us pc a. refl }
 
-row_always : (i : WideAlways) → Row (instr.Branch (branch.T16 (t16.Always i)))
+row_always : (i : WideAlways) → Row (wide_row.T16 (t16.Always i))
 row_always i =
     let x = always i.name in
     let s = wide_branch_mnemonic i.name in
     let f = wide_branch_suffix i.name in
-    label_row (instr.Branch (branch.T16 (t16.Always i))) (code_wide_always i) refl refl
+    label_row (wide_row.T16 (t16.Always i)) refl
     (is_printed_at s f [] x.mnemonic x.suffix tt refl refl (omega arith) refl)
     (λ t pc a l hp re.
     asks_label s f (t ∷ []) pc a (code_wide_always i) x.mnemonic x.suffix x.none (x.access (t ∷ []))
     (x.asks f (t ∷ []) pc a ∙ ap (λ (w : ℕ). Some w) (always_asks i pc a hp re)))
 
-pub row_t16 : (i : T16) → Row (instr.Branch (branch.T16 i))
+pub row_t16 : (i : T16) → Row (wide_row.T16 i)
 row_t16 (t16.Conditional i) = row_conditional i
 row_t16 (t16.Always i) = row_always i
 
@@ -239,10 +238,10 @@ asks_wls : (f : List ℕ) (n v : ℕ) (t : Tok) (pc a : ℕ) → n < 16 → ahea
 unfolding code_of_label
 asks_wls f n v t pc a hn e = rw ((a_register n hn).value, e) (ap (λ (w : ℕ). Some w) (omega arith))
 
-pub row_wls : (i : Wls) → Row (instr.Branch (branch.T23 (t23.Wls i)))
+pub row_wls : (i : Wls) → Row (wide_row.T23 (t23.Wls i))
 unfolding code_of code_of_memory
 row_wls i =
-    label_row (instr.Branch (branch.T23 (t23.Wls i))) (code_wls i) refl refl
+    label_row (wide_row.T23 (t23.Wls i)) refl
     (is_printed_at (codes "wls") [] _ refl refl
     (short_word (register_name 14) (word_r 14 lr_small) ▹ short_comma ▹ short_word (register_name i.n.value) (word_r i.n.value i.n.in_range)
     ▹ short_comma ▹ tt) refl refl (omega arith) refl)
@@ -255,12 +254,12 @@ asks_wlstp : (f : List ℕ) (z n v : ℕ) (t : Tok) (pc a : ℕ) → n < 16 → 
 unfolding code_of_label
 asks_wlstp f z n v t pc a hn s e = rw ((a_register n hn).value, s, e) (ap (λ (w : ℕ). Some w) (omega arith))
 
-pub row_wlstp : (i : Wlstp) → Row (instr.Branch (branch.T23 (t23.Wlstp i)))
+pub row_wlstp : (i : Wlstp) → Row (wide_row.T23 (t23.Wlstp i))
 unfolding code_of code_of_memory
 row_wlstp i =
     let f = element_suffix i.z.value in
     let g = suffix_element i.z.value i.z.in_range in
-    label_row (instr.Branch (branch.T23 (t23.Wlstp i))) (code_wlstp i) refl refl
+    label_row (wide_row.T23 (t23.Wlstp i)) refl
     (is_printed_at (codes "wlstp") f _ refl g.is
     (short_word (register_name 14) (word_r 14 lr_small) ▹ short_comma ▹ short_word (register_name i.n.value) (word_r i.n.value i.n.in_range)
     ▹ short_comma ▹ tt) refl refl (omega arith) refl)
@@ -302,7 +301,7 @@ end_of loop_end.Le = record {
   asks = λ v t pc a e. asks_label (codes "le") [] (t ∷ []) pc a _ refl refl (λ o. refl) refl (asks_le t pc a v e);
 }
 
-pub row_end : (i : LoopEnd) → Row (instr.Branch (branch.T23 (t23.End i)))
+pub row_end : (i : LoopEnd) → Row (wide_row.T23 (t23.End i))
 row_end i =
-    label_row (instr.Branch (branch.T23 (t23.End i))) (code_loop_end i) refl refl (end_of i.name).prints
+    label_row (wide_row.T23 (t23.End i)) refl (end_of i.name).prints
     (λ t pc a l hp re. (end_of i.name).asks i.v.value t pc a (behind_back pc i.v.value a hp i.v.in_range re))

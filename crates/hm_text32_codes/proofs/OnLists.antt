@@ -1,7 +1,5 @@
 -- Rows of lists of registers: their texts ask for their codes.
 use Rattle.std.proofs.Common.{◌≡◌, ℕ, zero, suc, ◌+◌, ◌<◌, true, List, ◌++◌, Some, refl, ap, ◌∙◌, arith}
-use Rattle.hm_isa.specs.declared.Instr.TheVariants as instr
-use Rattle.hm_isa.specs.declared.Scalar.TheVariants as scalar
 use Rattle.hm_isa.specs.declared.wide.T14.{T14}
 use Rattle.hm_isa.specs.declared.wide.WideListName.{WideListName}
 use Rattle.hm_isa.specs.Code.{code_t14, wide_list_base}
@@ -50,13 +48,11 @@ list_sum : (name : WideListName) (w n list : ℕ) → w < 2 → n < 16 → list 
     → list_code name (base_and_list w n list) ≡ wide_list_base name + w ↑ 21 + n ↑ 16 + list
 list_sum name w n list hw hn small = sum_of (wide_list_base name) w n list (braces list) hw hn (braces_bits list small)
 
-pub row_t14 : (i : T14) → Asks (instr.Scalar (scalar.T14 i))
+pub row_t14 : (i : T14) → Asks (code_t14 i)
     (list_start (wide_list_mnemonic i.name ++ wide_list_suffix i.name) i.w.value i.n.value ++ braces i.list.value)
 row_t14 i =
     let us = base_and_list i.w.value i.n.value i.list.value in
     record {
-      code = code_t14 i;
-      has = refl;
       asks =
           λ pc a. asks_memory (wide_list_mnemonic i.name) (wide_list_suffix i.name) us pc a (code_t14 i) (grind arith) (suffix_list i.name)
           (no_list i.name)

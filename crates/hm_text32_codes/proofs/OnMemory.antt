@@ -4,20 +4,16 @@ use Rattle.std.proofs.Common.{arith}
 use Rattle.std.specs.Prelude.{codes, nat_eq, nat_lt, not, ◌&&◌, if◌then◌else◌}
 use Rattle.std.proofs.lemmas.Bool.{and_parts, eqb-true}
 use Rattle.std.proofs.lemmas.Bool.Decides.{nat_tests}
-use Rattle.hm_isa.specs.declared.Instr.{Instr}
-use Rattle.hm_isa.specs.declared.Instr.TheVariants as instr
-use Rattle.hm_isa.specs.declared.Scalar.TheVariants as scalar
 use Rattle.hm_isa.specs.declared.narrow.AccessName.{AccessName}
 use Rattle.hm_isa.specs.declared.wide.PairName.{PairName}
 use Rattle.hm_isa.specs.declared.wide.PairName.TheVariants as pair
 use Rattle.hm_isa.specs.declared.wide.T12.{T12}
 use Rattle.hm_isa.specs.declared.wide.T12.TheVariants as t12
 use Rattle.hm_isa.specs.declared.wide.T13.{T13}
-use Rattle.hm_isa.specs.Code.{code_t13, pair_base, wide_access_base}
+use Rattle.hm_isa.specs.Code.{code_t12, code_t13, pair_base, wide_access_base}
 use Rattle.hm_isa.specs.Rules.{is_data, is_indexed, is_offset, is_pair}
 use Rattle.hm_isa.specs.Standing.{◌↑◌}
 use Rattle.std.proofs.lemmas.List.{append-nil}
-use Rattle.hm_layout.specs.Wide.{HasWord}
 use Rattle.hm_tokens.specs.Names.{register_name}
 use Rattle.hm_tokens.specs.Ranges.{singles}
 use Rattle.hm_tokens.specs.Tokens.{Tok, word, comma}
@@ -130,11 +126,9 @@ reads_scaled s f t n m k mnemonic g ht hn hm hk = record {
       refl (omega arith) refl;
 }
 
-access_asks : (k : Instr) (name : AccessName) (us : List Tok) (o : Places) (w : ℕ) → Addressed (access_mnemonic name ++ wide) us o
-    → access_code (wide_access_base name) o ≡ w → HasWord k w → Asks k (word (access_mnemonic name ++ wide) ∷ us)
-access_asks k name us o w is e has = record {
-  code = w;
-  has = has;
+access_asks : (name : AccessName) (us : List Tok) (o : Places) (w : ℕ) → Addressed (access_mnemonic name ++ wide) us o
+    → access_code (wide_access_base name) o ≡ w → Asks w (word (access_mnemonic name ++ wide) ∷ us)
+access_asks name us o w is e = record {
   asks =
       λ pc a. asks_memory (access_mnemonic name) wide us pc a w (mnemonic_access name) refl (no_access name)
       (asks_access name us ∙ ap (λ (x : Places). Some (access_code (wide_access_base name) x)) is.places ∙ ap (λ (x : ℕ). Some x) e);
@@ -174,36 +168,36 @@ some_use p u w (inr e) = let h = e.1 in omega (arith, h)
 shifted_sum : (base n t k m : ℕ) → access_code base (given false 1 1 0 t n m 0 k) ≡ base + n ↑ 16 + t ↑ 12 + k ↑ 4 + m
 shifted_sum base n t k m = omega arith
 
-pub row_t12 : (i : T12) → Asks (instr.Scalar (scalar.T12 i)) (access_tokens i)
+pub row_t12 : (i : T12) → Asks (code_t12 i) (access_tokens i)
 row_t12 (t12.Offset i) =
     let small : i.i.value < 2 ^ 32 = let lt = i.i.in_range in omega (arith, lt) in
-    access_asks (instr.Scalar (scalar.T12 (t12.Offset i))) i.name _ _ _
+    access_asks i.name _ _ _
     (reads_indexed (access_mnemonic i.name) wide i.t.value i.n.value 1 1 0 i.i.value (mnemonic_access i.name) refl i.t.in_range i.n.in_range (omega arith)
     (omega arith)
     (omega arith) (omega arith) small)
-    (offset_sum (wide_access_base i.name) i.n.value i.t.value i.i.value (no_pc i.name i.n.value i.t.value i.rules)) refl
+    (offset_sum (wide_access_base i.name) i.n.value i.t.value i.i.value (no_pc i.name i.n.value i.t.value i.rules))
 row_t12 (t12.Indexed i) =
     let small : i.i.value < 2 ^ 32 = let lt = i.i.in_range in omega (arith, lt) in
     let use_ = used i.name i.n.value i.t.value i.p.value i.u.value i.w.value i.w.in_range i.rules in
     let parts = and_parts (is_offset i.name i.n.value i.t.value)
     (if nat_eq i.w.value 1 then not (nat_eq i.n.value i.t.value) else nat_eq i.p.value 1 && nat_eq i.u.value 0) i.rules in
-    access_asks (instr.Scalar (scalar.T12 (t12.Indexed i))) i.name _ _ _
+    access_asks i.name _ _ _
     (reads_indexed (access_mnemonic i.name) wide i.t.value i.n.value i.p.value i.u.value i.w.value i.i.value (mnemonic_access i.name) refl i.t.in_range
     i.n.in_range
     i.p.in_range i.u.in_range i.w.in_range (some_use _ _ _ use_) small)
-    (indexed_sum (wide_access_base i.name) i.n.value i.t.value i.p.value i.u.value i.w.value i.i.value use_ (no_pc i.name i.n.value i.t.value parts.0)) refl
+    (indexed_sum (wide_access_base i.name) i.n.value i.t.value i.p.value i.u.value i.w.value i.i.value use_ (no_pc i.name i.n.value i.t.value parts.0))
 row_t12 (t12.Shifted i) =
     let small : i.i.value < 2 ^ 32 = let lt = i.i.in_range in omega (arith, lt) in
-    access_asks (instr.Scalar (scalar.T12 (t12.Shifted i))) i.name _ _ _
+    access_asks i.name _ _ _
     (reads_scaled (access_mnemonic i.name) wide i.t.value i.n.value i.m.value i.i.value (mnemonic_access i.name) refl i.t.in_range i.n.in_range i.m.in_range
     small)
-    (shifted_sum (wide_access_base i.name) i.n.value i.t.value i.i.value i.m.value) refl
+    (shifted_sum (wide_access_base i.name) i.n.value i.t.value i.i.value i.m.value)
 row_t12 (t12.Literal i) =
     let small : i.i.value < 2 ^ 32 = let lt = i.i.in_range in omega (arith, lt) in
-    access_asks (instr.Scalar (scalar.T12 (t12.Literal i))) i.name _ _ _
+    access_asks i.name _ _ _
     (reads_indexed (access_mnemonic i.name) wide i.t.value 15 1 i.u.value 0 i.i.value (mnemonic_access i.name) refl i.t.in_range (omega arith) (omega arith)
     i.u.in_range (omega arith) (omega arith) small)
-    (literal_sum (wide_access_base i.name) i.u.value i.t.value i.i.value) refl
+    (literal_sum (wide_access_base i.name) i.u.value i.t.value i.i.value)
 
 -- T13
 no_pair : (name : PairName) → IsNoPlain (pair_mnemonic name)
@@ -277,7 +271,7 @@ first_rule pair.Ldrd p w n t u e = less 0 (p + w) (first_of_five _ _ _ _ _ _ e)
     first_of_five true b c d f g e = refl
     first_of_five false b c d f g e = absurd cc
 
-pub row_t13 : (i : T13) → Asks (instr.Scalar (scalar.T13 i))
+pub row_t13 : (i : T13) → Asks (code_t13 i)
     (word (pair_mnemonic i.name) ∷ r i.t.value ∷ comma ∷ r i.u.value ∷ comma ∷ indexed i.p.value i.add.value i.w.value (r i.n.value) (4 * i.i.value))
 row_t13 i =
     let us = r i.t.value ∷ comma ∷ r i.u.value ∷ comma ∷ indexed i.p.value i.add.value i.w.value (r i.n.value) (4 * i.i.value) in
@@ -285,10 +279,8 @@ row_t13 i =
     let is = reads_pair (pair_mnemonic i.name) [] i.t.value i.u.value i.n.value i.p.value i.add.value i.w.value (4 * i.i.value) (grind arith) refl
     i.t.in_range
     i.u.in_range i.n.in_range i.p.in_range i.add.in_range i.w.in_range (first_rule i.name _ _ _ _ _ i.rules) small in
-    subst (λ (name : List ℕ). Asks (instr.Scalar (scalar.T13 i)) (word name ∷ us)) (append-nil (pair_mnemonic i.name))
+    subst (λ (name : List ℕ). Asks (code_t13 i) (word name ∷ us)) (append-nil (pair_mnemonic i.name))
     (record {
-      code = code_t13 i;
-      has = refl;
       asks =
           λ pc a. asks_memory (pair_mnemonic i.name) [] us pc a (code_t13 i) (grind arith) refl (no_pair i.name)
           (asks_pair i.name us ∙ ap (λ (x : Places). Some (pair_code (pair_base i.name) x)) is.places

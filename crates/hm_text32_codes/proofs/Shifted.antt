@@ -3,18 +3,14 @@ use Rattle.std.proofs.Common.{◌≡◌, ℕ, zero, suc, ◌+◌, ◌/◌, ◌%�
 use Rattle.std.proofs.Common.{arith}
 use Rattle.std.specs.Prelude.{codes, nat_eq, ◌&&◌, ◌||◌}
 use Rattle.std.proofs.lemmas.Bool.{and_parts, cases_Bool, eqb-true, false≢true, or_cases}
-use Rattle.hm_isa.specs.declared.Instr.{Instr}
-use Rattle.hm_isa.specs.declared.Instr.TheVariants as instr
-use Rattle.hm_isa.specs.declared.Scalar.TheVariants as scalar
 use Rattle.hm_isa.specs.declared.data.DataName.{DataName}
 use Rattle.hm_isa.specs.declared.data.DataName.TheVariants as data_
 use Rattle.hm_isa.specs.declared.data.T2.{T2}
-use Rattle.hm_isa.specs.DataCodes.{data_operation}
+use Rattle.hm_isa.specs.DataCodes.{code_t2, data_operation}
 use Rattle.hm_isa.specs.DataRules.{is_first, is_result, is_shifted_row, is_stack_move, may_test}
 use Rattle.hm_isa.specs.Rules.{is_general}
 use Rattle.hm_isa.specs.Standing.{◌↑◌}
 use Rattle.hm_isa.specs.Words.{imm5, is_by_carry, shift_number}
-use Rattle.hm_layout.specs.Wide.{HasWord}
 use Rattle.hm_tokens.specs.Tokens.{word}
 use Rattle.hm_text32_codes.specs.Codes.{code_of, data_base, shifted_code}
 use Rattle.hm_text32_codes.specs.Operands.{word_value}
@@ -129,14 +125,13 @@ record Fields (s n d m ty j l : ℕ) : Type 0 where
   high : j < 8
   low : l < 4
 
-data_answers : (k : Instr) (name : DataName) (s n d m ty j l : ℕ) → Fields s n d m ty j l → HasWord k (data_sum (data_operation name) s n j d l ty m)
-    → Answers k (and_shifted (three (data_mnemonic name s ++ wide) (r d) (r n) (r m)) ty (imm5 j l))
-data_answers k name s n d m ty j l is has =
-    answers_of k _ (data_sum (data_operation name) s n j d l ty m) (data_mnemonic name s) _
+data_answers : (name : DataName) (s n d m ty j l : ℕ) → Fields s n d m ty j l
+    → Answers (data_sum (data_operation name) s n j d l ty m) (and_shifted (three (data_mnemonic name s ++ wide) (r d) (r n) (r m)) ty (imm5 j l))
+data_answers name s n d m ty j l is =
+    answers_of _ _ (data_mnemonic name s) _
     (three_shifted (data_mnemonic name s) wide _ _ _ _ _ _ _ _ _ _ ty (imm5 j l) (mnemonic_data name s is.flag) suffix_wide (a_register d is.result)
     (a_register n is.first) (a_register m is.last) is.kind (five_below j l is.high is.low))
     (asks_data name s n d m _ _ is.flag ∙ ap (λ (w : ℕ). Some w) (read_sum (data_operation name) s n d m ty j l is.kind is.high is.low))
-    has
 
 -- TESTS
 asks_test : (name : DataName) (n m v x : ℕ) → may_test name ≡ true
@@ -161,15 +156,13 @@ test_rule name s n j l ty m e =
     and_parts (nat_eq s 1) (may_test name)
     (second_of_four (is_first name n) (is_result name s n 15) (is_general m) true (is_stack_move name s n 15 j l ty m) e (and_no _))
 
-test_answers : (k : Instr) (name : DataName) (n m ty j l : ℕ) → n < 16 → m < 16 → ty < 4 → j < 8 → l < 4 → may_test name ≡ true
-    → HasWord k (data_sum (data_operation name) 1 n j 15 l ty m)
-    → Answers k (and_shifted (two (test_mnemonic name ++ wide) (r n) (r m)) ty (imm5 j l))
-test_answers k name n m ty j l hn hm ht hj hl may has =
-    answers_of k _ (data_sum (data_operation name) 1 n j 15 l ty m) (test_mnemonic name) _
+test_answers : (name : DataName) (n m ty j l : ℕ) → n < 16 → m < 16 → ty < 4 → j < 8 → l < 4 → may_test name ≡ true
+    → Answers (data_sum (data_operation name) 1 n j 15 l ty m) (and_shifted (two (test_mnemonic name ++ wide) (r n) (r m)) ty (imm5 j l))
+test_answers name n m ty j l hn hm ht hj hl may =
+    answers_of _ _ (test_mnemonic name) _
     (two_shifted (test_mnemonic name) wide _ _ _ _ _ _ _ ty (imm5 j l) (grind arith) suffix_wide (a_register n hn) (a_register m hm) ht
     (five_below j l hj hl))
     (asks_test name n m _ _ may ∙ ap (λ (w : ℕ). Some w) (read_sum (data_operation name) 1 n 15 m ty j l ht hj hl))
-    has
 
 -- MOVES
 asks_not : (s d m v x : ℕ) → s < 2
@@ -190,34 +183,32 @@ asks_turn : (ty s d m x : ℕ) → ty < 4 → s < 2
 unfolding code_of
 asks_turn ty s d m x ht lt = grind arith
 
-not_answers : (k : Instr) (s d m ty j l : ℕ) → Fields s 15 d m ty j l → HasWord k (data_sum 3 s 15 j d l ty m)
-    → Answers k (and_shifted (two (move_mnemonic data_.Orn s ++ wide) (r d) (r m)) ty (imm5 j l))
-not_answers k s d m ty j l is has =
-    answers_of k _ (data_sum 3 s 15 j d l ty m) (move_mnemonic data_.Orn s) _
+not_answers : (s d m ty j l : ℕ) → Fields s 15 d m ty j l
+    → Answers (data_sum 3 s 15 j d l ty m) (and_shifted (two (move_mnemonic data_.Orn s ++ wide) (r d) (r m)) ty (imm5 j l))
+not_answers s d m ty j l is =
+    answers_of _ _ (move_mnemonic data_.Orn s) _
     (two_shifted (move_mnemonic data_.Orn s) wide _ _ _ _ _ _ _ ty (imm5 j l) (let lt = is.flag in grind arith) suffix_wide (a_register d is.result)
     (a_register m is.last)
     is.kind (five_below j l is.high is.low))
     (asks_not s d m _ _ is.flag ∙ ap (λ (w : ℕ). Some w) (read_sum 3 s 15 d m ty j l is.kind is.high is.low))
-    has
 
 -- a number that is 0 has no digits
 no_digits : (j l : ℕ) → nat_eq (imm5 j l) 0 ≡ true → (j ≡ 0) × (l ≡ 0)
 no_digits j l e = let is = eqb-true (imm5 j l) 0 e in (omega (arith, is), omega (arith, is))
 
-carry_answers : (k : Instr) (s d m ty j l : ℕ) → Fields s 15 d m ty j l → ty ≡ 3 → j ≡ 0 → l ≡ 0 → HasWord k (data_sum 2 s 15 j d l ty m)
-    → Answers k (two (carry_mnemonic s) (r d) (r m))
-carry_answers k s d m ty j l is ht hj hl has =
-    answers_of k _ (data_sum 2 s 15 j d l ty m) (carry_mnemonic s) _
+carry_answers : (s d m ty j l : ℕ) → Fields s 15 d m ty j l → ty ≡ 3 → j ≡ 0 → l ≡ 0 → Answers (data_sum 2 s 15 j d l ty m) (two (carry_mnemonic s) (r d) (r m))
+carry_answers s d m ty j l is ht hj hl =
+    answers_of _ (data_sum 2 s 15 j d l ty m) (carry_mnemonic s) _
     (bare (λ name. two name (r d) (r m)) (carry_mnemonic s) _
     (reads_two (carry_mnemonic s) [] _ _ _ _ _ _ _ (let lt = is.flag in grind arith) no_suffix (a_register d is.result) (a_register m is.last)))
-    (rw (ht, hj, hl) (asks_carry s d m is.flag)) has
+    (rw (ht, hj, hl) (asks_carry s d m is.flag))
 
-plain_answers : (k : Instr) (s d m ty j l : ℕ) → Fields s 15 d m ty j l → ty ≡ 0 → j ≡ 0 → l ≡ 0 → HasWord k (data_sum 2 s 15 j d l ty m)
-    → Answers k (two (move_mnemonic data_.Orr s ++ wide) (r d) (r m))
-plain_answers k s d m ty j l is ht hj hl has =
-    answers_of k _ (data_sum 2 s 15 j d l ty m) (move_mnemonic data_.Orr s) _
+plain_answers : (s d m ty j l : ℕ) → Fields s 15 d m ty j l → ty ≡ 0 → j ≡ 0 → l ≡ 0
+    → Answers (data_sum 2 s 15 j d l ty m) (two (move_mnemonic data_.Orr s ++ wide) (r d) (r m))
+plain_answers s d m ty j l is ht hj hl =
+    answers_of _ (data_sum 2 s 15 j d l ty m) (move_mnemonic data_.Orr s) _
     (reads_two (move_mnemonic data_.Orr s) wide _ _ _ _ _ _ _ (let lt = is.flag in grind arith) suffix_wide (a_register d is.result) (a_register m is.last))
-    (rw (ht, hj, hl) (asks_move s d m is.flag ∙ ap (λ (w : ℕ). Some w) (shifted_sum 2 s 15 d m 0 0 0 0 0 refl refl refl))) has
+    (rw (ht, hj, hl) (asks_move s d m is.flag ∙ ap (λ (w : ℕ). Some w) (shifted_sum 2 s 15 d m 0 0 0 0 0 refl refl refl)))
 
 -- a number that is written is read as it is
 number_kept : (ty k : ℕ) → is_by_carry ty k ≡ false → number_read ty k ≡ shift_number ty k
@@ -228,13 +219,13 @@ turn_is ty zero lt flag = below_holds (λ j. is_mnemonic (turn_mnemonic j 0)) 4 
 turn_is ty (suc zero) lt flag = below_holds (λ j. is_mnemonic (turn_mnemonic j 1)) 4 ty refl lt
 turn_is ty (suc (suc s)) lt flag = absurd (omega arith)
 
-turn_answers : (k : Instr) (s d m ty j l : ℕ) → Fields s 15 d m ty j l → is_by_carry ty (imm5 j l) ≡ false → HasWord k (data_sum 2 s 15 j d l ty m)
-    → Answers k (and_constant (two (turn_mnemonic ty s ++ wide) (r d) (r m)) (shift_number ty (imm5 j l)))
-turn_answers k s d m ty j l is none has =
+turn_answers : (s d m ty j l : ℕ) → Fields s 15 d m ty j l → is_by_carry ty (imm5 j l) ≡ false
+    → Answers (data_sum 2 s 15 j d l ty m) (and_constant (two (turn_mnemonic ty s ++ wide) (r d) (r m)) (shift_number ty (imm5 j l)))
+turn_answers s d m ty j l is none =
     let below = five_below j l is.high is.low in
     let kept = ap (λ (x : ℕ). x % 32 / 4) (number_kept ty (imm5 j l) none) in
     let low_kept = ap (λ (x : ℕ). x % 4) (number_kept ty (imm5 j l) none) in
-    answers_of k _ (data_sum 2 s 15 j d l ty m) (turn_mnemonic ty s) _
+    answers_of _ _ (turn_mnemonic ty s) _
     (reads_two_constant (turn_mnemonic ty s) wide _ _ _ _ _ _ _ _ (turn_is ty s is.kind is.flag) suffix_wide (a_register d is.result)
     (a_register m is.last)
     (number_small ty (imm5 j l) below))
@@ -243,58 +234,53 @@ turn_answers k s d m ty j l is none has =
     (shifted_sum 2 s 15 d m ty (shift_number ty (imm5 j l)) ty j l refl
     (sym kept ∙ high_same ty (imm5 j l) is.kind below ∙ five_high j l is.low)
     (sym low_kept ∙ low_same ty (imm5 j l) is.kind below ∙ five_low j l is.low)))
-    has
 
 both : (a b : Bool) → (a && b) ≡ true → (a ≡ true) × (b ≡ true)
 both a b e = and_parts a b e
 
-moved_answers : (k : Instr) (s d m ty j l : ℕ) → Fields s 15 d m ty j l → HasWord k (data_sum 2 s 15 j d l ty m)
-    → Answers k (moved_tokens s d m ty (imm5 j l))
-moved_answers k s d m ty j l is has =
+moved_answers : (s d m ty j l : ℕ) → Fields s 15 d m ty j l → Answers (data_sum 2 s 15 j d l ty m) (moved_tokens s d m ty (imm5 j l))
+moved_answers s d m ty j l is =
     elim (cases_Bool (is_by_carry ty (imm5 j l))) [
       | inl e ↦
           let p = both (nat_eq ty 3) (nat_eq (imm5 j l) 0) e in
           let zeros = no_digits j l p.1 in
-          rw e (carry_answers k s d m ty j l is (eqb-true ty 3 p.0) zeros.0 zeros.1 has)
+          rw e (carry_answers s d m ty j l is (eqb-true ty 3 p.0) zeros.0 zeros.1)
       | inr e ↦
           elim (cases_Bool (nat_eq ty 0 && nat_eq (imm5 j l) 0)) [
             | inl f ↦
                 let p = both (nat_eq ty 0) (nat_eq (imm5 j l) 0) f in
                 let zeros = no_digits j l p.1 in
-                rw (e, f) (plain_answers k s d m ty j l is (eqb-true ty 0 p.0) zeros.0 zeros.1 has)
-            | inr f ↦ rw (e, f) (turn_answers k s d m ty j l is e has)
+                rw (e, f) (plain_answers s d m ty j l is (eqb-true ty 0 p.0) zeros.0 zeros.1)
+            | inr f ↦ rw (e, f) (turn_answers s d m ty j l is e)
           ]
     ]
 
-single_answers : (k : Instr) (name : DataName) (s d m ty j l : ℕ) → Fields s 15 d m ty j l → is_shifted_row name s 15 d j l ty m ≡ true
-    → HasWord k (data_sum (data_operation name) s 15 j d l ty m) → Answers k (single_tokens name s d m ty (imm5 j l))
-single_answers k data_.Orr s d m ty j l is e has = moved_answers k s d m ty j l is has
-single_answers k data_.Orn s d m ty j l is e has = not_answers k s d m ty j l is has
-single_answers k name s d m ty j l is e has = absurd cc
+single_answers : (name : DataName) (s d m ty j l : ℕ) → Fields s 15 d m ty j l → is_shifted_row name s 15 d j l ty m ≡ true
+    → Answers (data_sum (data_operation name) s 15 j d l ty m) (single_tokens name s d m ty (imm5 j l))
+single_answers data_.Orr s d m ty j l is e = moved_answers s d m ty j l is
+single_answers data_.Orn s d m ty j l is e = not_answers s d m ty j l is
+single_answers name s d m ty j l is e = absurd cc
 
 -- ALL
-row_answers : (k : Instr) (name : DataName) (s n d m ty j l : ℕ) → Fields s n d m ty j l → is_shifted_row name s n d j l ty m ≡ true
-    → HasWord k (data_sum (data_operation name) s n j d l ty m) → Answers k (data_tokens name s n d m ty (imm5 j l))
-row_answers k name s n d m ty j l is e has =
+row_answers : (name : DataName) (s n d m ty j l : ℕ) → Fields s n d m ty j l → is_shifted_row name s n d j l ty m ≡ true
+    → Answers (data_sum (data_operation name) s n j d l ty m) (data_tokens name s n d m ty (imm5 j l))
+row_answers name s n d m ty j l is e =
     elim (cases_Bool (eqb d 15)) [
       | inl f ↦
           let none = eqb-true d 15 f in
           let rule = test_rule name s n j l ty m (rw none at e) in
           let flag = eqb-true s 1 rule.0 in
-          rw f (test_answers k name n m ty j l is.first is.last is.kind is.high is.low rule.1 (rw (none, flag) at has))
+          rw (f, none, flag) (test_answers name n m ty j l is.first is.last is.kind is.high is.low rule.1)
       | inr f ↦
           elim (cases_Bool (eqb n 15)) [
-            | inl g ↦
-                let none = eqb-true n 15 g in
-                rw (f, g) (single_answers k name s d m ty j l (rw none at is) (rw none at e) (rw none at has))
-            | inr g ↦ rw (f, g) (data_answers k name s n d m ty j l is has)
+            | inl g ↦ let none = eqb-true n 15 g in rw (f, g, none) (single_answers name s d m ty j l (rw none at is) (rw none at e))
+            | inr g ↦ rw (f, g) (data_answers name s n d m ty j l is)
           ]
     ]
 
-pub row_t2 : (i : T2) → Answers (instr.Scalar (scalar.T2 i))
-    (data_tokens i.name i.s.value i.n.value i.d.value i.m.value i.ty.value (imm5 i.i3.value i.i2.value))
+pub row_t2 : (i : T2) → Answers (code_t2 i) (data_tokens i.name i.s.value i.n.value i.d.value i.m.value i.ty.value (imm5 i.i3.value i.i2.value))
 row_t2 i =
-    row_answers _ i.name i.s.value i.n.value i.d.value i.m.value i.ty.value i.i3.value i.i2.value
+    row_answers i.name i.s.value i.n.value i.d.value i.m.value i.ty.value i.i3.value i.i2.value
     (record {
       flag = i.s.in_range;
       first = i.n.in_range;
@@ -304,4 +290,4 @@ row_t2 i =
       high = i.i3.in_range;
       low = i.i2.in_range;
     })
-    i.rules refl
+    i.rules

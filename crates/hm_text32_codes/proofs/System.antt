@@ -3,9 +3,6 @@ use Rattle.std.proofs.Common.{◌≡◌, ℕ, ◌+◌, ◌-◌, ◌/◌, ◌%◌
 use Rattle.std.specs.Prelude.{codes, nat_eq, nat_lt, ◌&&◌}
 use Rattle.std.proofs.lemmas.Bool.{agree_below_at, and_parts}
 use Rattle.std.proofs.lemmas.Bool.Decides.{nat_tests}
-use Rattle.hm_isa.specs.declared.Instr.TheVariants as instr
-use Rattle.hm_isa.specs.declared.Scalar.TheVariants as scalar
-use Rattle.hm_isa.specs.declared.Branch.TheVariants as branch
 use Rattle.hm_isa.specs.declared.wide.StackName.{StackName}
 use Rattle.hm_isa.specs.declared.wide.T15.{T15}
 use Rattle.hm_isa.specs.declared.jumps.T17.{T17}
@@ -13,7 +10,6 @@ use Rattle.hm_isa.specs.declared.jumps.TableName.{TableName}
 use Rattle.hm_isa.specs.declared.jumps.TableName.TheVariants as table
 use Rattle.hm_isa.specs.declared.jumps.Dls.{Dls}
 use Rattle.hm_isa.specs.declared.jumps.Dlstp.{Dlstp}
-use Rattle.hm_isa.specs.declared.jumps.T23.TheVariants as t23
 use Rattle.hm_isa.specs.declared.system.BarrierName.{BarrierName}
 use Rattle.hm_isa.specs.declared.system.Barrier.{Barrier}
 use Rattle.hm_isa.specs.declared.system.ReadName.{ReadName}
@@ -30,7 +26,7 @@ use Rattle.hm_isa.specs.declared.system.T21.{T21}
 use Rattle.hm_isa.specs.declared.system.T22.{T22}
 use Rattle.hm_isa.specs.Code.{code_t15, stack_base}
 use Rattle.hm_isa.specs.JumpCodes.{code_dls, code_dlstp, code_t17, table_base}
-use Rattle.hm_isa.specs.SystemCodes.{barrier_base, code_barrier, code_mrs, code_msr, code_t21, code_t22, lane_move_base, read_base, system_move_base}
+use Rattle.hm_isa.specs.SystemCodes.{barrier_base, code_barrier, code_t18, code_t19, code_t21, code_t22, lane_move_base, read_base, system_move_base}
 use Rattle.hm_isa.specs.SystemCodes.{written_base}
 use Rattle.hm_isa.specs.Standing.{◌↑◌}
 use Rattle.hm_tokens.specs.Names.{double_name, register_in, register_name}
@@ -87,16 +83,16 @@ some_doubles v k e =
     let p = and_parts (nat_lt 0 k) (nat_lt (v + k) 17) e in
     (grind (arith, nat_tests, p.0), grind (arith, nat_tests, p.1))
 
-pub row_t15 : (i : T15) → Answers (instr.Scalar (scalar.T15 i)) (word (stack_mnemonic i.name) ∷ doubles i.v.value i.k.value)
+pub row_t15 : (i : T15) → Answers (code_t15 i) (word (stack_mnemonic i.name) ∷ doubles i.v.value i.k.value)
 row_t15 i =
     let v = i.v.value in
     let k = i.k.value in
     let p = some_doubles v k i.rules in
-    answers_of _ _ (code_t15 i) _ _
+    answers_of _ _ _ _
     (bare (λ name. word name ∷ doubles v k) (stack_mnemonic i.name) _
     (reads_doubles _ _ _ _ _ _ _ (grind arith) (a_double v i.v.in_range) (a_double (v + k - 1) (omega (arith, p.0, p.1))) (no_register v i.v.in_range)
     (no_register (v + k - 1) (omega (arith, p.0, p.1)))))
-    (asks_stack i.name v (v + k - 1) k (last_and_one v k p.0)) refl
+    (asks_stack i.name v (v + k - 1) k (last_and_one v k p.0))
 
 -- T17
 reads_table : (s w x : List ℕ) (b c : Bool) (m n : ℕ) → is_mnemonic s ≡ true → Operand w m b → Operand x n c
@@ -139,10 +135,10 @@ table_reads table.Tbb n m hn hm =
 table_reads table.Tbh n m hn hm =
     (codes "tbh", given false 0 false n m 0 1 0, reads_scaled_table (codes "tbh") _ _ _ _ _ _ _ _ _ refl (a_register n hn) (a_register m hm) lsl, asks_tbh n m)
 
-pub row_t17 : (i : T17) → Answers (instr.Branch (branch.T17 i)) (table_tokens i.name i.n.value i.m.value)
+pub row_t17 : (i : T17) → Answers (code_t17 i) (table_tokens i.name i.n.value i.m.value)
 row_t17 i =
     let t = table_reads i.name i.n.value i.m.value i.n.in_range i.m.in_range in
-    answers_of _ _ (code_t17 i) t.0 t.1 t.2 t.3 refl
+    answers_of _ _ t.0 t.1 t.2 t.3
 
 -- T18
 a_read : (name : ReadName) → Operand (read_name name) (special_number name) false
@@ -164,13 +160,13 @@ asks_msr : (name : WrittenName) (n : ℕ) → code_of (codes "msr") (given false
 unfolding code_of
 asks_msr name n = grind arith
 
-pub row_t18 : (i : T18) → Answers (instr.Scalar (scalar.T18 i)) (special_tokens i)
+pub row_t18 : (i : T18) → Answers (code_t18 i) (special_tokens i)
 row_t18 (t18.Read i) =
-    answers_of _ _ (code_mrs i) (codes "mrs") _
-    (reads_two (codes "mrs") _ _ _ _ _ _ _ _ refl no_suffix (a_register i.d.value i.d.in_range) (a_read i.name)) (asks_mrs i.name _) refl
+    answers_of _ _ (codes "mrs") _
+    (reads_two (codes "mrs") _ _ _ _ _ _ _ _ refl no_suffix (a_register i.d.value i.d.in_range) (a_read i.name)) (asks_mrs i.name _)
 row_t18 (t18.Write i) =
-    answers_of _ _ (code_msr i) (codes "msr") _
-    (reads_two (codes "msr") _ _ _ _ _ _ _ _ refl no_suffix (a_written i.name) (a_register i.n.value i.n.in_range)) (asks_msr i.name _) refl
+    answers_of _ _ (codes "msr") _
+    (reads_two (codes "msr") _ _ _ _ _ _ _ _ refl no_suffix (a_written i.name) (a_register i.n.value i.n.in_range)) (asks_msr i.name _)
 
 -- T19
 asks_barrier : (name : BarrierName) (o : ℕ) → code_of (barrier_mnemonic name) (given false 0 false o 0 0 0 0) ≡ Some (barrier_base name + o)
@@ -185,20 +181,20 @@ asks_nop : code_of (codes "nop") (given true 0 false 0 0 0 0 0) ≡ Some 0xf3af8
 unfolding code_of
 asks_nop = refl
 
-pub row_t19 : (i : T19) → Answers (instr.Scalar (scalar.T19 i)) (barrier_tokens i)
-row_t19 t19.Nop = answers_of _ _ 0xf3af8000 (codes "nop") _ (reads_none (codes "nop") wide 0 refl suffix_wide) asks_nop refl
+pub row_t19 : (i : T19) → Answers (code_t19 i) (barrier_tokens i)
+row_t19 t19.Nop = answers_of _ _ (codes "nop") _ (reads_none (codes "nop") wide 0 refl suffix_wide) asks_nop
 row_t19 (t19.Barrier i) =
-    answers_of _ _ (code_barrier i) _ _
+    answers_of _ _ _ _
     (bare (λ name. word name ∷ constant i.o.value) (barrier_mnemonic i.name) _
     (reads_constant (barrier_mnemonic i.name) [] 0 i.o.value (grind arith) no_suffix (let lt = i.o.in_range in omega arith)))
-    (asks_barrier i.name _) refl
+    (asks_barrier i.name _)
 
 -- the other spelling, where the number is 15
-pub other_barrier_answers : (i : Barrier) → i.o.value ≡ 15 → Answers (instr.Scalar (scalar.T19 (t19.Barrier i))) (word (barrier_mnemonic i.name) ∷ [])
+pub other_barrier_answers : (i : Barrier) → i.o.value ≡ 15 → Answers (code_barrier i) (word (barrier_mnemonic i.name) ∷ [])
 other_barrier_answers i e =
-    answers_of _ _ (code_barrier i) _ _
+    answers_of _ (code_barrier i) _ _
     (bare (λ name. word name ∷ []) (barrier_mnemonic i.name) _ (reads_none (barrier_mnemonic i.name) [] 0 (grind arith) no_suffix))
-    (rw e (asks_bare_barrier i.name)) refl
+    (rw e (asks_bare_barrier i.name))
 
 -- T21
 abbrev flag_name : ℕ → List ℕ
@@ -243,10 +239,10 @@ system_reads move.WriteFpscr t lt = (codes "vmsr", _, reads_two (codes "vmsr") [
 system_reads move.WriteVpr t lt = (codes "vmsr", _, reads_two (codes "vmsr") [] _ _ _ _ _ _ _ refl no_suffix vpr (a_register t lt), asks_vmsr 12 t)
 system_reads move.WriteP0 t lt = (codes "vmsr", _, reads_two (codes "vmsr") [] _ _ _ _ _ _ _ refl no_suffix p0 (a_register t lt), asks_vmsr 13 t)
 
-pub row_t21 : (i : T21) → Answers (instr.Scalar (scalar.T21 i)) (system_tokens i.name i.t.value)
+pub row_t21 : (i : T21) → Answers (code_t21 i) (system_tokens i.name i.t.value)
 row_t21 i =
     let t = system_reads i.name i.t.value i.t.in_range in
-    answers_of _ _ (code_t21 i) t.0 t.1 t.2 t.3 refl
+    answers_of _ _ t.0 t.1 t.2 t.3
 
 -- T22
 reads_to_lane : (s f w y : List ℕ) (b c : Bool) (z d x t : ℕ) → is_mnemonic s ≡ true → Suffix f z → Operand w d b → x < 2 ^ 32 → Operand y t c
@@ -286,10 +282,10 @@ lane_reads lane.ToLane d x t hd hx ht =
 lane_reads lane.FromLane d x t hd hx ht =
     (_, reads_from_lane (codes "vmov") _ _ _ _ _ _ _ _ _ refl suffix_words (a_vector d hd) (omega arith) (a_register t ht), asks_from_lane d x t)
 
-pub row_t22 : (i : T22) → Answers (instr.Scalar (scalar.T22 i)) (lane_tokens i.name i.q.value i.x.value i.t.value)
+pub row_t22 : (i : T22) → Answers (code_t22 i) (lane_tokens i.name i.q.value i.x.value i.t.value)
 row_t22 i =
     let t = lane_reads i.name i.q.value i.x.value i.t.value i.q.in_range i.x.in_range i.t.in_range in
-    answers_of _ _ (code_t22 i) (codes "vmov") t.0 t.1 t.2 refl
+    answers_of _ _ (codes "vmov") t.0 t.1 t.2
 
 -- T23
 lr_small : 14 < 16
@@ -307,16 +303,16 @@ asks_lctp : code_of (codes "lctp") (given true 0 false 0 0 0 0 0) ≡ Some 0xf00
 unfolding code_of
 asks_lctp = refl
 
-pub row_dls : (i : Dls) → Answers (instr.Branch (branch.T23 (t23.Dls i))) (two (codes "dls") (r 14) (r i.n.value))
+pub row_dls : (i : Dls) → Answers (code_dls i) (two (codes "dls") (r 14) (r i.n.value))
 row_dls i =
-    answers_of _ _ (code_dls i) (codes "dls") _
-    (reads_two (codes "dls") _ _ _ _ _ _ _ _ refl no_suffix (a_register 14 lr_small) (a_register i.n.value i.n.in_range)) (asks_dls _) refl
+    answers_of _ _ (codes "dls") _
+    (reads_two (codes "dls") _ _ _ _ _ _ _ _ refl no_suffix (a_register 14 lr_small) (a_register i.n.value i.n.in_range)) (asks_dls _)
 
-pub row_dlstp : (i : Dlstp) → Answers (instr.Branch (branch.T23 (t23.Dlstp i))) (two (codes "dlstp" ++ element_suffix i.z.value) (r 14) (r i.n.value))
+pub row_dlstp : (i : Dlstp) → Answers (code_dlstp i) (two (codes "dlstp" ++ element_suffix i.z.value) (r 14) (r i.n.value))
 row_dlstp i =
-    answers_of _ _ (code_dlstp i) (codes "dlstp") _
+    answers_of _ _ (codes "dlstp") _
     (reads_two (codes "dlstp") _ _ _ _ _ _ _ _ refl (suffix_element i.z.value i.z.in_range) (a_register 14 lr_small) (a_register i.n.value i.n.in_range))
-    (asks_dlstp i.z.value _) refl
+    (asks_dlstp i.z.value _)
 
-pub row_lctp : Answers (instr.Branch (branch.T23 t23.Lctp)) (word (codes "lctp") ∷ [])
-row_lctp = answers_of _ _ 0xf00fe001 (codes "lctp") _ (reads_none (codes "lctp") [] 0 refl no_suffix) asks_lctp refl
+pub row_lctp : Answers 0xf00fe001 (word (codes "lctp") ∷ [])
+row_lctp = answers_of _ _ (codes "lctp") _ (reads_none (codes "lctp") [] 0 refl no_suffix) asks_lctp

@@ -282,7 +282,7 @@ code_of s o = option_or (code_shifted s o) (option_or (code_of_arith s o) (optio
 abbrev pub code_cut : List ℕ × List ℕ → List Tok → Option ℕ
 code_cut parts ts = code_of parts.0 (read_operands parts.1 ts)
 
--- the code of a row that has no label and neither loads nor stores, by the first word, cut at its point, and what is behind it; None where no row fits
+-- the code of a row that has no label and is not of T12 to T14, by the first word, cut at its point, and what is behind it; None where no row fits
 abbrev pub plain_code_in : List Tok → Option ℕ
 plain_code_in [] = None
 plain_code_in (word name ∷ ts) = code_cut (span point name) ts

@@ -1,11 +1,8 @@
 -- The text of rows of two halfwords that are no vector rows, as tokens.
 use Rattle.std.specs.Prelude.{ℕ, Bool, true, false, ◌+◌, ◌-◌, ◌*◌, ◌&&◌, cond, List, [], ◌∷◌, ◌++◌, codes, nat_eq, Option, Some, None, if◌then◌else◌}
-use Rattle.hm_isa.specs.declared.Instr.{Instr}
-use Rattle.hm_isa.specs.declared.Instr.TheVariants as instr
-use Rattle.hm_isa.specs.declared.Scalar.{Scalar}
-use Rattle.hm_isa.specs.declared.Scalar.TheVariants.{T1, T2, T3, T4, T5, T6, T7, T8, T9, T10, T11, T12, T13, T14, T15, T18, T19, T20, T21, T22}
-use Rattle.hm_isa.specs.declared.Branch.{Branch}
-use Rattle.hm_isa.specs.declared.Branch.TheVariants.{T16, T17, T23}
+use Rattle.hm_isa.specs.declared.widths.WideRow.{WideRow}
+use Rattle.hm_isa.specs.declared.widths.WideRow.TheVariants.{T1, T2, T3, T4, T5, T6, T7, T8, T9, T10, T11, T12, T13, T14, T15, T16, T17, T18, T19, T20}
+use Rattle.hm_isa.specs.declared.widths.WideRow.TheVariants.{T21, T22, T23}
 use Rattle.hm_isa.specs.declared.arith.T11.{T11 as ProductRow}
 use Rattle.hm_isa.specs.declared.arith.T11.TheVariants as t11
 use Rattle.hm_isa.specs.declared.data.DataName.{DataName}
@@ -163,31 +160,6 @@ abbrev pub lane_tokens : LaneMoveName → ℕ → ℕ → ℕ → List Tok
 lane_tokens lane.ToLane d x t = word (codes "vmov" ++ codes ".32") ∷ (lane_of d x ++ comma ∷ r t ∷ [])
 lane_tokens lane.FromLane d x t = word (codes "vmov" ++ codes ".32") ∷ r t ∷ comma ∷ lane_of d x
 
--- those of rows of two halfwords
-abbrev pub scalar_tokens : Scalar → List Tok
-scalar_tokens (T1 i) = constant_tokens i.name i.s.value i.n.value i.d.value (constant_in i.i.value i.i3.value i.i8.value)
-scalar_tokens (T2 i) = data_tokens i.name i.s.value i.n.value i.d.value i.m.value i.ty.value (imm5 i.i3.value i.i2.value)
-scalar_tokens (T3 i) = and_constant (two (wide_sum_mnemonic i.name) (r i.d.value) (r i.n.value)) (imm12 i.i.value i.i3.value i.i8.value)
-scalar_tokens (T4 i) = and_constant (one (half_mnemonic i.name) (r i.d.value)) (imm16 i.i4.value i.i.value i.i3.value i.i8.value)
-scalar_tokens (T5 i) = saturate_tokens i
-scalar_tokens (T6 i) = and_constant (and_constant (two (extract_mnemonic i.name) (r i.d.value) (r i.n.value)) (imm5 i.i3.value i.i2.value)) (i.w.value + 1)
-scalar_tokens (T7 i) = insert_tokens i
-scalar_tokens (T8 i) = three (wide_shift_mnemonic i.name i.s.value ++ wide) (r i.d.value) (r i.n.value) (r i.m.value)
-scalar_tokens (T9 i) = and_shift (two (extend_mnemonic i.name ++ wide) (r i.d.value) (r i.m.value)) (codes "ror") (8 * i.r.value)
-scalar_tokens (T10 i) = two (bits_mnemonic i.name ++ bits_suffix i.name) (r i.d.value) (r i.m.value)
-scalar_tokens (T11 i) = product_tokens i
-scalar_tokens (T12 i) = access_tokens i
-scalar_tokens (T13 i) =
-    word (pair_mnemonic i.name) ∷ r i.t.value ∷ comma ∷ r i.u.value ∷ comma ∷ indexed i.p.value i.add.value i.w.value (r i.n.value) (4 * i.i.value)
-scalar_tokens (T14 i) = list_start (wide_list_mnemonic i.name ++ wide_list_suffix i.name) i.w.value i.n.value ++ braces i.list.value
-scalar_tokens (T15 i) = word (stack_mnemonic i.name) ∷ doubles i.v.value i.k.value
-scalar_tokens (T18 i) = special_tokens i
-scalar_tokens (T19 i) = barrier_tokens i
-scalar_tokens (T20 i) = four (select_mnemonic i.name) (r i.d.value) (or_zero i.n.value) (or_zero i.m.value) (word (condition_name i.c.value))
-scalar_tokens (T21 i) = system_tokens i.name i.t.value
-scalar_tokens (T22 i) = lane_tokens i.name i.q.value i.x.value i.t.value
-scalar_tokens i = []
-
 -- T17: the tokens of TBB and TBH, `tbb [rn,rm]`, `tbh [rn,rm,lsl #1]` (DDI0553, "TBB, TBH")
 abbrev pub table_tokens : TableName → ℕ → ℕ → List Tok
 table_tokens table.Tbb n m = word (table_mnemonic table.Tbb) ∷ open_bracket ∷ r n ∷ comma ∷ r m ∷ close_bracket ∷ []
@@ -214,18 +186,32 @@ loop_tokens (t23.Wlstp i) = two (codes "wlstp" ++ element_suffix i.z.value) (r 1
 loop_tokens (t23.End i) = loop_end_tokens i.name
 loop_tokens t23.Lctp = word (codes "lctp") ∷ []
 
--- the tokens of rows T16, T17 and T23, before the label where there is one; none of other rows
-abbrev pub branch_tokens : Branch → List Tok
-branch_tokens (T16 i) = wide_branch_tokens i
-branch_tokens (T17 i) = table_tokens i.name i.n.value i.m.value
-branch_tokens (T23 i) = loop_tokens i
-branch_tokens i = []
-
--- the tokens of each row of two halfwords that is no vector row, as it is printed; where it has a label, the ones before that; none of other rows
-abbrev pub row_tokens : Instr → List Tok
-row_tokens (instr.Scalar i) = scalar_tokens i
-row_tokens (instr.Branch i) = branch_tokens i
-row_tokens (instr.Vector i) = []
+-- the tokens of each row of two halfwords that is no vector row, as it is printed; where it has a label, the ones before that
+abbrev pub row_tokens : WideRow → List Tok
+row_tokens (T1 i) = constant_tokens i.name i.s.value i.n.value i.d.value (constant_in i.i.value i.i3.value i.i8.value)
+row_tokens (T2 i) = data_tokens i.name i.s.value i.n.value i.d.value i.m.value i.ty.value (imm5 i.i3.value i.i2.value)
+row_tokens (T3 i) = and_constant (two (wide_sum_mnemonic i.name) (r i.d.value) (r i.n.value)) (imm12 i.i.value i.i3.value i.i8.value)
+row_tokens (T4 i) = and_constant (one (half_mnemonic i.name) (r i.d.value)) (imm16 i.i4.value i.i.value i.i3.value i.i8.value)
+row_tokens (T5 i) = saturate_tokens i
+row_tokens (T6 i) = and_constant (and_constant (two (extract_mnemonic i.name) (r i.d.value) (r i.n.value)) (imm5 i.i3.value i.i2.value)) (i.w.value + 1)
+row_tokens (T7 i) = insert_tokens i
+row_tokens (T8 i) = three (wide_shift_mnemonic i.name i.s.value ++ wide) (r i.d.value) (r i.n.value) (r i.m.value)
+row_tokens (T9 i) = and_shift (two (extend_mnemonic i.name ++ wide) (r i.d.value) (r i.m.value)) (codes "ror") (8 * i.r.value)
+row_tokens (T10 i) = two (bits_mnemonic i.name ++ bits_suffix i.name) (r i.d.value) (r i.m.value)
+row_tokens (T11 i) = product_tokens i
+row_tokens (T12 i) = access_tokens i
+row_tokens (T13 i) =
+    word (pair_mnemonic i.name) ∷ r i.t.value ∷ comma ∷ r i.u.value ∷ comma ∷ indexed i.p.value i.add.value i.w.value (r i.n.value) (4 * i.i.value)
+row_tokens (T14 i) = list_start (wide_list_mnemonic i.name ++ wide_list_suffix i.name) i.w.value i.n.value ++ braces i.list.value
+row_tokens (T15 i) = word (stack_mnemonic i.name) ∷ doubles i.v.value i.k.value
+row_tokens (T16 i) = wide_branch_tokens i
+row_tokens (T17 i) = table_tokens i.name i.n.value i.m.value
+row_tokens (T18 i) = special_tokens i
+row_tokens (T19 i) = barrier_tokens i
+row_tokens (T20 i) = four (select_mnemonic i.name) (r i.d.value) (or_zero i.n.value) (or_zero i.m.value) (word (condition_name i.c.value))
+row_tokens (T21 i) = system_tokens i.name i.t.value
+row_tokens (T22 i) = lane_tokens i.name i.q.value i.x.value i.t.value
+row_tokens (T23 i) = loop_tokens i
 
 -- T23: whether the last operand is a label: of WLS, WLSTP, LE and LETP (DDI0553, "WLS, DLS, WLSTP, DLSTP" and "LE, LETP")
 abbrev pub has_label_loop : LoopRow → Bool
@@ -236,20 +222,14 @@ has_label_loop (t23.Wlstp i) = true
 has_label_loop (t23.End i) = true
 has_label_loop t23.Lctp = false
 
--- whether the last operand of a branch of two halfwords is a label: T16 and some of T23
-abbrev pub has_label_branch : Branch → Bool
-has_label_branch (T16 i) = true
-has_label_branch (T23 i) = has_label_loop i
-has_label_branch i = false
-
 -- whether the last operand of a row is a label: T16, and `wls`, `wlstp`, `le`, `letp` of T23
-abbrev pub has_label : Instr → Bool
-has_label (instr.Scalar i) = false
-has_label (instr.Branch i) = has_label_branch i
-has_label (instr.Vector i) = false
+abbrev pub has_label : WideRow → Bool
+has_label (T16 i) = true
+has_label (T23 i) = has_label_loop i
+has_label i = false
 
 -- the whole text of a row, where t is the token of its label, if it has one
-abbrev pub tokens_of : Instr → Tok → List Tok
+abbrev pub tokens_of : WideRow → Tok → List Tok
 tokens_of i t = if has_label i then row_tokens i ++ t ∷ [] else row_tokens i
 
 -- T19: the other text that is read as a row: DSB, DMB and ISB alone as those of 15 (DDI0553, "DSB", "DMB" and "ISB")
@@ -257,13 +237,7 @@ abbrev pub other_barrier : BarrierRow → Option (List Tok)
 other_barrier t19.Nop = None
 other_barrier (t19.Barrier i) = if nat_eq i.o.value 15 then Some (word (barrier_mnemonic i.name) ∷ []) else None
 
--- the other text of a row that is no branch and no vector row: T19 alone has one
-abbrev pub other_scalar : Scalar → Option (List Tok)
-other_scalar (T19 i) = other_barrier i
-other_scalar i = None
-
--- the other text of a row, where it has one
-abbrev pub other_tokens : Instr → Option (List Tok)
-other_tokens (instr.Scalar i) = other_scalar i
-other_tokens (instr.Branch i) = None
-other_tokens (instr.Vector i) = None
+-- the other text of a row, where it has one: T19 alone has one
+abbrev pub other_tokens : WideRow → Option (List Tok)
+other_tokens (T19 i) = other_barrier i
+other_tokens i = None

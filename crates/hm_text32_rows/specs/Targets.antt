@@ -1,9 +1,7 @@
 -- The address that the label of a row names.
 use Rattle.std.specs.Prelude.{ℕ, ◌-◌, ◌*◌, ◌^◌, Option, Some, None}
-use Rattle.hm_isa.specs.declared.Instr.{Instr}
-use Rattle.hm_isa.specs.declared.Instr.TheVariants.{Scalar, Branch, Vector}
-use Rattle.hm_isa.specs.declared.Branch.{Branch as BranchRow}
-use Rattle.hm_isa.specs.declared.Branch.TheVariants.{T16, T23}
+use Rattle.hm_isa.specs.declared.widths.WideRow.{WideRow}
+use Rattle.hm_isa.specs.declared.widths.WideRow.TheVariants.{T16, T23}
 use Rattle.hm_isa.specs.declared.jumps.T16.{T16 as WideBranchRow}
 use Rattle.hm_isa.specs.declared.jumps.T16.TheVariants as t16
 use Rattle.hm_isa.specs.declared.jumps.T23.{T23 as LoopRow}
@@ -23,14 +21,8 @@ loop_target (t23.Wlstp i) pc = Some (behind pc (2 * i.v.value))
 loop_target (t23.End i) pc = Some (behind pc (2 ^ 32 - 2 * i.v.value))
 loop_target i pc = None
 
--- the address that the label of a branch of two halfwords at pc names: T16 and T23; None of other rows
-abbrev pub branch_target : BranchRow → ℕ → Option ℕ
-branch_target (T16 i) pc = Some (wide_target i pc)
-branch_target (T23 i) pc = loop_target i pc
-branch_target i pc = None
-
--- the address that the label of a row of two halfwords names, where the instruction stands at pc; None where it has none
-abbrev pub target : Instr → ℕ → Option ℕ
-target (Scalar i) pc = None
-target (Branch i) pc = branch_target i pc
-target (Vector i) pc = None
+-- the address that the label of a row of two halfwords names, where the instruction stands at pc: T16 and T23; None where it has none
+abbrev pub target : WideRow → ℕ → Option ℕ
+target (T16 i) pc = Some (wide_target i pc)
+target (T23 i) pc = loop_target i pc
+target i pc = None

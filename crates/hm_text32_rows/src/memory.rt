@@ -1,9 +1,9 @@
 //! The texts of rows that load and store.
 
 ghost use Rattle.std.specs.Prelude.{◌≡◌, ◌≤◌, ◌<◌, ◌++◌, length};
-ghost use Rattle.hm_isa.specs.declared.Scalar.TheVariants as scalar;
+ghost use Rattle.hm_isa.specs.declared.widths.WideRow.TheVariants as wide;
 ghost use Rattle.hm_isa.specs.declared.wide.T12.TheVariants as t12;
-ghost use Rattle.hm_text32_rows.specs.Rows.{access_tokens, list_start, scalar_tokens};
+ghost use Rattle.hm_text32_rows.specs.Rows.{access_tokens, list_start, row_tokens};
 ghost use Rattle.hm_tokens.specs.Texts.{text_tokens};
 
 use crate::mnemonics::{pair_mnemonic, wide_list_mnemonic, wide_list_suffix};
@@ -60,7 +60,7 @@ fn literal_text(i: &Literal) -> InstrText
 
 /// The text of a row T12.
 pub fn text_t12(i: &T12) -> InstrText
-    ensures { text_tokens result ≡ scalar_tokens (scalar.T12 i.now) }
+    ensures { text_tokens result ≡ row_tokens (wide.T12 i.now) }
 {
     match i {
         T12::Offset(i) => offset_text(i),
@@ -72,7 +72,7 @@ pub fn text_t12(i: &T12) -> InstrText
 
 /// The text of a row T13.
 pub fn text_t13(i: &T13) -> InstrText
-    ensures { text_tokens result ≡ scalar_tokens (scalar.T13 i.now) }
+    ensures { text_tokens result ≡ row_tokens (wide.T13 i.now) }
 {
     let index = Index {
         p: i.p,
@@ -98,7 +98,7 @@ fn list_start(mnemonic: &'static str, suffix: &'static str, w: Bit, n: u32) -> I
 
 /// The text of a row T14.
 pub fn text_t14(i: &T14) -> InstrText
-    ensures { text_tokens result ≡ scalar_tokens (scalar.T14 i.now) }
+    ensures { text_tokens result ≡ row_tokens (wide.T14 i.now) }
 {
     let mnemonic = wide_list_mnemonic(i.name);
     let start = list_start(mnemonic, wide_list_suffix(i.name), i.w, i.n.get());

@@ -1,18 +1,17 @@
 //! The other spelling of a row, where it has one.
 
 ghost use Rattle.std.specs.Prelude.{◌≡◌, option_map};
-ghost use Rattle.hm_isa.specs.declared.Scalar.TheVariants as scalar;
-ghost use Rattle.hm_text32_rows.specs.Rows.{other_scalar, other_tokens};
+ghost use Rattle.hm_text32_rows.specs.Rows.{other_barrier, other_tokens};
 ghost use Rattle.hm_tokens.specs.Texts.{text_tokens};
 
 use crate::mnemonics::barrier_mnemonic;
-use hm_isa::{Instr, Scalar, T19};
+use hm_isa::{T19, WideRow};
 use hm_text_rows::alone;
 use hm_tokens::InstrText;
 
 /// `dsb`, `dmb` and `isb` alone, where they are those of 15.
 fn barrier_text(i: &T19) -> Option<InstrText>
-    ensures { option_map text_tokens result ≡ other_scalar (scalar.T19 i.now) }
+    ensures { option_map text_tokens result ≡ other_barrier i.now }
 {
     match i {
         T19::Nop => None,
@@ -26,22 +25,12 @@ fn barrier_text(i: &T19) -> Option<InstrText>
     }
 }
 
-/// The text of a scalar row in its other spelling, where it has one.
-fn other_scalar(i: &Scalar) -> Option<InstrText>
-    ensures { option_map text_tokens result ≡ other_scalar i.now }
-{
-    match i {
-        Scalar::T19(i) => barrier_text(i),
-        _ => None,
-    }
-}
-
 /// The text of a row in its other spelling, where it has one.
-pub fn other_text(i: &Instr) -> Option<InstrText>
+pub fn other_text(i: &WideRow) -> Option<InstrText>
     ensures tokens { option_map text_tokens result ≡ other_tokens i.now }
 {
     match i {
-        Instr::Scalar(i) => other_scalar(i),
-        Instr::Branch(_) | Instr::Vector(_) => None,
+        WideRow::T19(i) => barrier_text(i),
+        _ => None,
     }
 }

@@ -1,13 +1,9 @@
 //! The text of each row.
 
 ghost use Rattle.std.specs.Prelude.{◌≡◌, ◌≤◌, ◌+◌, ◌∷◌, ◌++◌, [], length};
-ghost use Rattle.hm_layout.specs.Wide.{IsWide};
-ghost use Rattle.hm_isa.specs.Code.{branch_halves, scalar_halves};
-ghost use Rattle.hm_isa.specs.declared.Scalar.TheVariants as scalar;
-ghost use Rattle.hm_isa.specs.declared.Branch.TheVariants as branch;
-ghost use Rattle.hm_text32_rows.specs.Rows.{and_shifted, branch_tokens, flags_or, is_unshifted, lane_tokens, loop_end_tokens};
-ghost use Rattle.hm_text32_rows.specs.Rows.{moved_tokens};
-ghost use Rattle.hm_text32_rows.specs.Rows.{constant_in, row_tokens, saturated_bits, scalar_tokens, single_tokens, system_tokens};
+ghost use Rattle.hm_isa.specs.declared.widths.WideRow.TheVariants as wide;
+ghost use Rattle.hm_text32_rows.specs.Rows.{and_shifted, constant_in, flags_or, is_unshifted, lane_tokens, loop_end_tokens, moved_tokens};
+ghost use Rattle.hm_text32_rows.specs.Rows.{row_tokens, saturated_bits, single_tokens, system_tokens};
 ghost use Rattle.hm_text_rows.specs.Shapes.{r};
 ghost use Rattle.hm_tokens.specs.Texts.{part_token, text_tokens};
 ghost use Rattle.hm_tokens.specs.Tokens.{number, word, close_bracket, comma, open_bracket};
@@ -22,9 +18,9 @@ use crate::mnemonics::{
 };
 use hm_isa::words::{expand_imm_c, imm5, imm12, imm16, is_by_carry, shift_number};
 use hm_isa::{
-    Below, Bit, Branch, Byte, DataName, Instr, LaneMoveName, LoopEndName, QRegister, Register,
-    SaturateName, Scalar, SystemMoveName, T1, T2, T3, T4, T5, T6, T7, T8, T9, T10, T11, T15, T16,
-    T17, T18, T19, T20, T21, T22, T23, TableName,
+    Below, Bit, Byte, DataName, LaneMoveName, LoopEndName, QRegister, Register, SaturateName,
+    SystemMoveName, T1, T2, T3, T4, T5, T6, T7, T8, T9, T10, T11, T15, T16, T17, T18, T19, T20,
+    T21, T22, T23, TableName, WideRow,
 };
 use hm_text_rows::{
     alone, and, and_constant, and_shift, and_turn, element_suffix, extend_mnemonic, first, four,
@@ -95,7 +91,7 @@ fn single_text(i: &T2, k: u32) -> InstrText
 
 /// The text of a row T1.
 fn text_t1(i: &T1) -> InstrText
-    ensures { text_tokens result ≡ scalar_tokens (scalar.T1 i.now) }
+    ensures { text_tokens result ≡ row_tokens (wide.T1 i.now) }
 {
     let c = constant_in(i.i, i.i3, i.i8);
     if i.d.get() == 15 {
@@ -111,7 +107,7 @@ fn text_t1(i: &T1) -> InstrText
 
 /// The text of a row T2.
 fn text_t2(i: &T2) -> InstrText
-    ensures { text_tokens result ≡ scalar_tokens (scalar.T2 i.now) }
+    ensures { text_tokens result ≡ row_tokens (wide.T2 i.now) }
 {
     let k = imm5(i.i3, i.i2);
     if i.d.get() == 15 {
@@ -128,7 +124,7 @@ fn text_t2(i: &T2) -> InstrText
 
 /// The text of a row T3.
 fn text_t3(i: &T3) -> InstrText
-    ensures { text_tokens result ≡ scalar_tokens (scalar.T3 i.now) }
+    ensures { text_tokens result ≡ row_tokens (wide.T3 i.now) }
 {
     let text = two(wide_sum_mnemonic(i.name), "", r(i.d.get()), r(i.n.get()));
     and_constant(text, imm12(i.i, i.i3, i.i8))
@@ -136,7 +132,7 @@ fn text_t3(i: &T3) -> InstrText
 
 /// The text of a row T4.
 fn text_t4(i: &T4) -> InstrText
-    ensures { text_tokens result ≡ scalar_tokens (scalar.T4 i.now) }
+    ensures { text_tokens result ≡ row_tokens (wide.T4 i.now) }
 {
     let x = imm16(i.i4, i.i, i.i3, i.i8);
     and_constant(one(half_mnemonic(i.name), "", r(i.d.get())), x)
@@ -154,7 +150,7 @@ fn saturated_bits(name: SaturateName, s: Below<32>) -> u32
 
 /// The text of a row T5.
 fn text_t5(i: &T5) -> InstrText
-    ensures { text_tokens result ≡ scalar_tokens (scalar.T5 i.now) }
+    ensures { text_tokens result ≡ row_tokens (wide.T5 i.now) }
 {
     let text = and_constant(
         one(saturate_mnemonic(i.name), "", r(i.d.get())),
@@ -166,7 +162,7 @@ fn text_t5(i: &T5) -> InstrText
 
 /// The text of a row T6.
 fn text_t6(i: &T6) -> InstrText
-    ensures { text_tokens result ≡ scalar_tokens (scalar.T6 i.now) }
+    ensures { text_tokens result ≡ row_tokens (wide.T6 i.now) }
 {
     let text = two(extract_mnemonic(i.name), "", r(i.d.get()), r(i.n.get()));
     let text = and_constant(text, imm5(i.i3, i.i2));
@@ -175,7 +171,7 @@ fn text_t6(i: &T6) -> InstrText
 
 /// The text of a row T7.
 fn text_t7(i: &T7) -> InstrText
-    ensures { text_tokens result ≡ scalar_tokens (scalar.T7 i.now) }
+    ensures { text_tokens result ≡ row_tokens (wide.T7 i.now) }
 {
     let low = imm5(i.i3, i.i2);
     let width = i.e.get() + 1 - low;
@@ -189,7 +185,7 @@ fn text_t7(i: &T7) -> InstrText
 
 /// The text of a row T8.
 fn text_t8(i: &T8) -> InstrText
-    ensures { text_tokens result ≡ scalar_tokens (scalar.T8 i.now) }
+    ensures { text_tokens result ≡ row_tokens (wide.T8 i.now) }
 {
     let mnemonic = wide_shift_mnemonic(i.name, i.s);
     three(mnemonic, ".w", r(i.d.get()), r(i.n.get()), r(i.m.get()))
@@ -197,7 +193,7 @@ fn text_t8(i: &T8) -> InstrText
 
 /// The text of a row T9.
 fn text_t9(i: &T9) -> InstrText
-    ensures { text_tokens result ≡ scalar_tokens (scalar.T9 i.now) }
+    ensures { text_tokens result ≡ row_tokens (wide.T9 i.now) }
 {
     let text = two(extend_mnemonic(i.name), ".w", r(i.d.get()), r(i.m.get()));
     and_shift(text, "ror", 8 * i.r.get())
@@ -205,7 +201,7 @@ fn text_t9(i: &T9) -> InstrText
 
 /// The text of a row T10.
 fn text_t10(i: &T10) -> InstrText
-    ensures { text_tokens result ≡ scalar_tokens (scalar.T10 i.now) }
+    ensures { text_tokens result ≡ row_tokens (wide.T10 i.now) }
 {
     two(
         bits_mnemonic(i.name),
@@ -217,7 +213,7 @@ fn text_t10(i: &T10) -> InstrText
 
 /// The text of a row T11.
 fn text_t11(i: &T11) -> InstrText
-    ensures { text_tokens result ≡ scalar_tokens (scalar.T11 i.now) }
+    ensures { text_tokens result ≡ row_tokens (wide.T11 i.now) }
 {
     match i {
         T11::Operation(i) => three(
@@ -248,7 +244,7 @@ fn text_t11(i: &T11) -> InstrText
 
 /// The text of a row T15.
 fn text_t15(i: &T15) -> InstrText
-    ensures { text_tokens result ≡ scalar_tokens (scalar.T15 i.now) }
+    ensures { text_tokens result ≡ row_tokens (wide.T15 i.now) }
 {
     let last = i.v.get() + i.k.get() - 1;
     let mut text = first(
@@ -264,7 +260,7 @@ fn text_t15(i: &T15) -> InstrText
 
 /// The text of a row T18.
 fn text_t18(i: &T18) -> InstrText
-    ensures { text_tokens result ≡ scalar_tokens (scalar.T18 i.now) }
+    ensures { text_tokens result ≡ row_tokens (wide.T18 i.now) }
 {
     match i {
         T18::Read(i) => two("mrs", "", r(i.d.get()), Part::Word(read_name(i.name))),
@@ -274,7 +270,7 @@ fn text_t18(i: &T18) -> InstrText
 
 /// The text of a row T19.
 fn text_t19(i: &T19) -> InstrText
-    ensures { text_tokens result ≡ scalar_tokens (scalar.T19 i.now) }
+    ensures { text_tokens result ≡ row_tokens (wide.T19 i.now) }
 {
     match i {
         T19::Nop => alone("nop", "", ".w"),
@@ -291,7 +287,7 @@ fn text_t19(i: &T19) -> InstrText
 
 /// The text of a row T20.
 fn text_t20(i: &T20) -> InstrText
-    ensures { text_tokens result ≡ scalar_tokens (scalar.T20 i.now) }
+    ensures { text_tokens result ≡ row_tokens (wide.T20 i.now) }
 {
     four(
         select_mnemonic(i.name),
@@ -330,7 +326,7 @@ fn system_text(name: SystemMoveName, t: Register) -> InstrText
 
 /// The text of a row T21.
 fn text_t21(i: &T21) -> InstrText
-    ensures { text_tokens result ≡ scalar_tokens (scalar.T21 i.now) }
+    ensures { text_tokens result ≡ row_tokens (wide.T21 i.now) }
 {
     system_text(i.name, i.t)
 }
@@ -359,7 +355,7 @@ fn lane_text(name: LaneMoveName, d: QRegister, x: u32, t: Register) -> InstrText
 
 /// The text of a row T22.
 fn text_t22(i: &T22) -> InstrText
-    ensures { text_tokens result ≡ scalar_tokens (scalar.T22 i.now) }
+    ensures { text_tokens result ≡ row_tokens (wide.T22 i.now) }
 {
     lane_text(i.name, i.q, i.x.get(), i.t)
 }
@@ -376,7 +372,7 @@ fn base_and_index(mnemonic: &'static str, n: Register, m: Register) -> InstrText
 
 /// The text of a row T17.
 fn text_t17(i: &T17) -> InstrText
-    ensures { text_tokens result ≡ branch_tokens (branch.T17 i.now) }
+    ensures { text_tokens result ≡ row_tokens (wide.T17 i.now) }
 {
     match i.name {
         TableName::Tbb => {
@@ -392,7 +388,7 @@ fn text_t17(i: &T17) -> InstrText
 
 /// The mnemonic of a wide branch, and its condition, with their suffix.
 fn text_t16(i: &T16) -> InstrText
-    ensures { text_tokens result ≡ branch_tokens (branch.T16 i.now) }
+    ensures { text_tokens result ≡ row_tokens (wide.T16 i.now) }
 {
     match i {
         T16::Conditional(i) => alone("b", condition_name(i.c.get()), ".w"),
@@ -413,7 +409,7 @@ fn loop_end_text(name: LoopEndName) -> InstrText
 
 /// The text of a row T23; of one with a label, what stands before that.
 fn text_t23(i: &T23) -> InstrText
-    ensures { text_tokens result ≡ branch_tokens (branch.T23 i.now) }
+    ensures { text_tokens result ≡ row_tokens (wide.T23 i.now) }
 {
     match i {
         T23::Dls(i) => two("dls", "", r(14), r(i.n.get())),
@@ -428,57 +424,33 @@ fn text_t23(i: &T23) -> InstrText
     }
 }
 
-/// The text of a scalar row of two halfwords.
-fn scalar_text(i: &Scalar) -> InstrText
-    requires { length (scalar_halves i.now) ≡ 2 }
-    ensures { text_tokens result ≡ scalar_tokens i.now }
-{
-    match i {
-        Scalar::T1(i) => text_t1(i),
-        Scalar::T2(i) => text_t2(i),
-        Scalar::T3(i) => text_t3(i),
-        Scalar::T4(i) => text_t4(i),
-        Scalar::T5(i) => text_t5(i),
-        Scalar::T6(i) => text_t6(i),
-        Scalar::T7(i) => text_t7(i),
-        Scalar::T8(i) => text_t8(i),
-        Scalar::T9(i) => text_t9(i),
-        Scalar::T10(i) => text_t10(i),
-        Scalar::T11(i) => text_t11(i),
-        Scalar::T12(i) => text_t12(i),
-        Scalar::T13(i) => text_t13(i),
-        Scalar::T14(i) => text_t14(i),
-        Scalar::T15(i) => text_t15(i),
-        Scalar::T18(i) => text_t18(i),
-        Scalar::T19(i) => text_t19(i),
-        Scalar::T20(i) => text_t20(i),
-        Scalar::T21(i) => text_t21(i),
-        Scalar::T22(i) => text_t22(i),
-        _ => unreachable!(),
-    }
-}
-
-/// The text of a branch of two halfwords.
-fn branch_text(i: &Branch) -> InstrText
-    requires { length (branch_halves i.now) ≡ 2 }
-    ensures { text_tokens result ≡ branch_tokens i.now }
-{
-    match i {
-        Branch::T16(i) => text_t16(i),
-        Branch::T17(i) => text_t17(i),
-        Branch::T23(i) => text_t23(i),
-        _ => unreachable!(),
-    }
-}
-
 /// The text of a row of two halfwords that is no vector row; of one with a label, what stands before that.
-pub fn row_text(i: &Instr) -> InstrText
-    requires wide { IsWide i.now }
+pub fn row_text(i: &WideRow) -> InstrText
     ensures tokens { text_tokens result ≡ row_tokens i.now }
 {
     match i {
-        Instr::Scalar(i) => scalar_text(i),
-        Instr::Branch(i) => branch_text(i),
-        Instr::Vector(_) => unreachable!(),
+        WideRow::T1(i) => text_t1(i),
+        WideRow::T2(i) => text_t2(i),
+        WideRow::T3(i) => text_t3(i),
+        WideRow::T4(i) => text_t4(i),
+        WideRow::T5(i) => text_t5(i),
+        WideRow::T6(i) => text_t6(i),
+        WideRow::T7(i) => text_t7(i),
+        WideRow::T8(i) => text_t8(i),
+        WideRow::T9(i) => text_t9(i),
+        WideRow::T10(i) => text_t10(i),
+        WideRow::T11(i) => text_t11(i),
+        WideRow::T12(i) => text_t12(i),
+        WideRow::T13(i) => text_t13(i),
+        WideRow::T14(i) => text_t14(i),
+        WideRow::T15(i) => text_t15(i),
+        WideRow::T16(i) => text_t16(i),
+        WideRow::T17(i) => text_t17(i),
+        WideRow::T18(i) => text_t18(i),
+        WideRow::T19(i) => text_t19(i),
+        WideRow::T20(i) => text_t20(i),
+        WideRow::T21(i) => text_t21(i),
+        WideRow::T22(i) => text_t22(i),
+        WideRow::T23(i) => text_t23(i),
     }
 }

@@ -1,10 +1,10 @@
 //! Whether a row has a label, and the address that this names.
 
 ghost use Rattle.std.specs.Prelude.{◌≡◌, ◌<◌, ◌^◌};
-ghost use Rattle.hm_text32_rows.specs.Rows.{has_label, has_label_branch, has_label_loop};
-ghost use Rattle.hm_text32_rows.specs.Targets.{branch_target, loop_target, target, wide_target};
+ghost use Rattle.hm_text32_rows.specs.Rows.{has_label, has_label_loop};
+ghost use Rattle.hm_text32_rows.specs.Targets.{loop_target, target, wide_target};
 
-use hm_isa::{Branch, Instr, T16, T23};
+use hm_isa::{T16, T23, WideRow};
 use hm_text_rows::behind;
 
 /// Whether a row T23 has a label.
@@ -17,24 +17,14 @@ fn has_label_loop(i: &T23) -> bool
     }
 }
 
-/// Whether a branch has a label.
-fn has_label_branch(i: &Branch) -> bool
-    ensures { result ≡ has_label_branch i.now }
-{
-    match i {
-        Branch::T16(_) => true,
-        Branch::T23(i) => has_label_loop(i),
-        _ => false,
-    }
-}
-
 /// Whether the last operand of a row of two halfwords is a label.
-pub fn has_label(i: &Instr) -> bool
+pub fn has_label(i: &WideRow) -> bool
     ensures value { result ≡ has_label i.now }
 {
     match i {
-        Instr::Branch(i) => has_label_branch(i),
-        Instr::Scalar(_) | Instr::Vector(_) => false,
+        WideRow::T16(_) => true,
+        WideRow::T23(i) => has_label_loop(i),
+        _ => false,
     }
 }
 
@@ -60,23 +50,13 @@ fn loop_target(i: &T23, pc: u32) -> Option<u32>
     }
 }
 
-/// The target of a branch.
-fn branch_target(i: &Branch, pc: u32) -> Option<u32>
-    ensures { result ≡ branch_target i.now pc }
-{
-    match i {
-        Branch::T16(i) => Some(wide_target(i, pc)),
-        Branch::T23(i) => loop_target(i, pc),
-        _ => None,
-    }
-}
-
 /// The address that the label of a row of two halfwords names, where the instruction stands at `pc`; None where it has none.
-pub fn target(i: &Instr, pc: u32) -> Option<u32>
+pub fn target(i: &WideRow, pc: u32) -> Option<u32>
     ensures value { result ≡ target i.now pc }
 {
     match i {
-        Instr::Branch(i) => branch_target(i, pc),
-        Instr::Scalar(_) | Instr::Vector(_) => None,
+        WideRow::T16(i) => Some(wide_target(i, pc)),
+        WideRow::T23(i) => loop_target(i, pc),
+        _ => None,
     }
 }

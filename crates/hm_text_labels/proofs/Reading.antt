@@ -28,19 +28,18 @@ other_row P C j coded exact not i is = not (subst P (sym (some_is j i (the_row P
 
 -- ---- what a table says of its rows
 
--- the row near i with the tokens, whose label t names 4 from address 0
-abbrev pub NearestOf : (Has Are : Instr → Tok → List Tok → Type 0) (label : Instr → Tok → Option Tok) (target : Instr → ℕ → Option ℕ)
+-- the row near i with the tokens, whose label names 4 from address 0
+abbrev pub NearestOf : (Has : Instr → Tok → List Tok → Type 0) (label : Instr → Tok → Option Tok) (target : Instr → ℕ → Option ℕ)
     → Instr → Tok → List Tok → Type 0
-NearestOf Has Are label target i t ts = (j : Instr) × IsRowAt Has target ts 0 4 j × Are j t ts × (label j t ≡ label i t)
+NearestOf Has label target i t ts = (j : Instr) × (is : IsRowAt Has target ts 0 4 j) × (label j is.label ≡ label i t)
 
--- rows that have tokens (Has) have them as their texts (Are), few of them, and there is one as near as can be with the same
-pub record IsReadable (Has Are : Instr → Tok → List Tok → Type 0) (label : Instr → Tok → Option Tok) (target : Instr → ℕ → Option ℕ) : Type 0 where
-  pub are : (i : Instr) (t : Tok) (ts : List Tok) → Has i t ts → Are i t ts
+-- rows have few tokens, and there is one as near as can be with the same
+pub record IsReadable (Has : Instr → Tok → List Tok → Type 0) (label : Instr → Tok → Option Tok) (target : Instr → ℕ → Option ℕ) : Type 0 where
   pub few : (i : Instr) (t : Tok) (ts : List Tok) → Has i t ts → length ts ≤ 40
-  pub near : (i : Instr) (t : Tok) (ts : List Tok) → Has i t ts → NearestOf Has Are label target i t ts
+  pub near : (i : Instr) (t : Tok) (ts : List Tok) → Has i t ts → NearestOf Has label target i t ts
 
-module _ (Has Are : Instr → Tok → List Tok → Type 0) (label : Instr → Tok → Option Tok) (target : Instr → ℕ → Option ℕ)
-    (table : IsReadable Has Are label target) where
+module _ {Has : Instr → Tok → List Tok → Type 0} {label : Instr → Tok → Option Tok} {target : Instr → ℕ → Option ℕ}
+    (table : IsReadable Has label target) where
   -- ---- ranges
 
   pub too_many_tokens : (ts : List Tok) → 40 < length (normal ts) → (i : Instr) (t : Tok) → Has i t (normal ts) → ⊥
@@ -51,17 +50,17 @@ module _ (Has Are : Instr → Tok → List Tok → Type 0) (label : Instr → To
 
   -- ---- shapes
 
-  pub shape_found : (ts : List Tok) (i : Instr) (s : Option Tok) → IsRowAt Has target ts 0 4 i → ((t : Tok) → Are i t ts → s ≡ label i t)
+  pub shape_found : (ts : List Tok) (i : Instr) (s : Option Tok) → IsRowAt Has target ts 0 4 i → ((t : Tok) → Has i t ts → s ≡ label i t)
       → (j : Instr) × (t : Tok) × Has j t ts × (label j t ≡ s)
-  shape_found ts i s is says = (i, is.label, is.has, sym (says is.label (table.are i is.label ts is.has)))
+  shape_found ts i s is says = (i, is.label, is.has, sym (says is.label is.has))
 
   pub shape_only : (ts : List Tok) (i : Instr) (s : Option Tok) → ((j : Instr) → IsRowAt Has target ts 0 4 j → given i ≡ given j)
-      → ((t : Tok) → Are i t ts → s ≡ label i t) → (j : Instr) (t : Tok) → Has j t ts → given s ≡ given (label j t)
+      → ((t : Tok) → Has i t ts → s ≡ label i t) → (j : Instr) (t : Tok) → Has j t ts → given s ≡ given (label j t)
   shape_only ts i s only says j t has =
       let n = table.near j t ts has in
       let is : i ≡ n.0 = some_is i n.0 (only n.0 n.1) in
-      let mine : Are i t ts = subst (λ (x : Instr). Are x t ts) (sym is) n.2 in
-      ap (λ (x : Option Tok). Some x) (says t mine ∙ ap (λ (x : Instr). label x t) is ∙ n.3)
+      let mine : Has i n.1.label ts = subst (λ (x : Instr). Has x n.1.label ts) (sym is) n.1.has in
+      ap (λ (x : Option Tok). Some x) (says n.1.label mine ∙ ap (λ (x : Instr). label x n.1.label) is ∙ n.2)
 
   pub shape_none : (ts : List Tok) → ((j : Instr) → IsRowAt Has target ts 0 4 j → ⊥) → (j : Instr) (t : Tok) → Has j t ts → ⊥
   shape_none ts none j t has = let n = table.near j t ts has in none n.0 n.1

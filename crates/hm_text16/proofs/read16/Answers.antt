@@ -3,14 +3,13 @@ use Rattle.std.specs.Prelude.{IfSome}
 use Rattle.hm_isa.specs.declared.Instr.{Instr}
 use Rattle.hm_tokens.specs.Tokens.{Tok, tok}
 use Rattle.hm_text_labels.proofs.Reading.{too_many}
-use Rattle.hm_text16_rows.specs.Targets.{target}
-use Rattle.hm_text16.specs.Texts.{HasTokens, IsRowAt, label_of}
-use Rattle.hm_text16.proofs.Parsing.{AreTokens, readable}
+use Rattle.hm_text16.specs.Texts.{IsRowAt}
+use Rattle.hm_text16.proofs.Parsing.{readable}
 use Rattle.hm_text16.proofs.read16.Goals as goal
 
 pub returns-in_err-single-clause-only : goal.returns-in_err-single-clause-only
 returns-in_err-single-clause-only c i is =
-    absurd (too_many HasTokens AreTokens label_of target readable (map tok c.args.tokens.now) c.args.pc c.args.address c.in_err-single.ensures.none i is)
+    absurd (too_many readable (map tok c.args.tokens.now) c.args.pc c.args.address c.in_err-single.ensures.none i is)
 
 pub returns-clause-found : goal.returns-clause-found
 returns-clause-found c =

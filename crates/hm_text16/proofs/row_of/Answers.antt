@@ -5,7 +5,7 @@ use Rattle.hm_isa.specs.Code.{halfwords}
 use Rattle.hm_tokens.specs.Tokens.{tok}
 use Rattle.hm_text_labels.proofs.Reading.{other_row, the_row}
 use Rattle.hm_text16.specs.Texts.{IsRowAt}
-use Rattle.hm_text16.proofs.Parsing.{narrow_of, no_code, the_code, too_large}
+use Rattle.hm_text16.proofs.Parsing.{no_code, the_code, too_large}
 use Rattle.hm_text16.proofs.row_of.Goals as goal
 
 pub returns-in_err-code-clause-only : goal.returns-in_err-code-clause-only
@@ -23,9 +23,6 @@ returns-in_err-i-clause-only c i is =
     let ts = map tok c.args.tokens.now in
     let coded = the_code ts c.args.pc c.args.address c.in_ok-code.code c.ranges.pc.fits c.ranges.address.fits (sym c.in_ok-code.ensures.value) in
     absurd (c.in_err-i.ensures.none i (coded i is))
-
-pub is_row_at-requires : goal.is_row_at-requires
-is_row_at-requires c = record { narrow = narrow_of c.in_ok-i.i c.in_ok-code.code c.in_ok-i.ensures.found }
 
 pub returns-then-is_row_at-clause-found : goal.returns-then-is_row_at-clause-found
 returns-then-is_row_at-clause-found c = c.is_row_at.ensures.0 c.if-is_row_at.true

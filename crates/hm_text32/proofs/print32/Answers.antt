@@ -9,16 +9,16 @@ use Rattle.hm_text32.proofs.print32.Goals as goal
 
 pub print_with-requires : goal.print_with-requires
 print_with-requires c =
-    let i = c.args.i.now in
-    let room = printed_room i c.args.pc c.requires.wide in
+    let r = c.args.row.now in
+    let room = printed_room r c.args.pc in
     record {
-      room = room_as (text_tokens c.row_text.result) (row_tokens i) c.target.result (target i c.args.pc) c.row_text.ensures.tokens c.target.ensures.value room;
+      room = room_as (text_tokens c.row_text.result) (row_tokens r) c.target.result (target r c.args.pc) c.row_text.ensures.tokens c.target.ensures.value room;
     }
 
 pub returns-clause-text : goal.returns-clause-text
 returns-clause-text c = c.print_with.ensures.text ∙ (λ j. printed_with (c.row_text.ensures.tokens j) (c.target.ensures.value j))
 
 pub returns-clause-read : goal.returns-clause-read
-returns-clause-read c labels =
-    printed_read c.args.i.now c.args.pc _ labels c.requires.wide
+returns-clause-read c i is labels =
+    printed_read i c.args.row.now c.args.pc _ labels is
     (c.print_with.ensures.text ∙ (λ j. printed_with (c.row_text.ensures.tokens j) (c.target.ensures.value j)))

@@ -3,14 +3,13 @@ use Rattle.std.specs.Prelude.{IfSome, option_map}
 use Rattle.hm_isa.specs.declared.Instr.{Instr}
 use Rattle.hm_tokens.specs.Tokens.{Tok, tok}
 use Rattle.hm_text_labels.proofs.Reading.{too_many_tokens}
-use Rattle.hm_text32_rows.specs.Targets.{target}
-use Rattle.hm_text32.specs.Texts.{AreTokens, HasTokens, label_of}
+use Rattle.hm_text32.specs.Texts.{HasTokens, label_of}
 use Rattle.hm_text32.proofs.Parsing.{readable}
 use Rattle.hm_text32.proofs.shape32.Goals as goal
 
 pub returns-in_err-single-clause-only : goal.returns-in_err-single-clause-only
 returns-in_err-single-clause-only c i u has =
-    absurd (too_many_tokens HasTokens AreTokens label_of target readable (map tok c.args.tokens.now) c.in_err-single.ensures.none i u has)
+    absurd (too_many_tokens readable (map tok c.args.tokens.now) c.in_err-single.ensures.none i u has)
 
 pub returns-clause-found : goal.returns-clause-found
 returns-clause-found c =

@@ -1,29 +1,23 @@
 use Rattle.std.proofs.Common.{map}
 use Rattle.std.specs.Prelude.{option_map}
 use Rattle.hm_tokens.specs.Tokens.{tok}
-use Rattle.hm_text16_rows.specs.Targets as narrow_targets
-use Rattle.hm_text16.specs.Texts as narrow
 use Rattle.hm_text.proofs.InTables.{narrow_table, none_read, shape_found, shape_none, shape_only}
 use Rattle.hm_text.proofs.tables.narrow_shape.Goals as goal
 
 pub returns-in_err-tokens-clause-only : goal.returns-in_err-tokens-clause-only
-returns-in_err-tokens-clause-only c i u n =
-    absurd (none_read narrow.HasTokens 2 narrow.label_of narrow_targets.target narrow_table c.args.text.now c.in_err-tokens.ensures.only i u n)
+returns-in_err-tokens-clause-only c i u n = absurd (none_read narrow_table c.args.text.now c.in_err-tokens.ensures.only i u n)
 
 pub returns-in-Some-clause-found : goal.returns-in-Some-clause-found
 returns-in-Some-clause-found c =
-    shape_found narrow.HasTokens 2 narrow.label_of narrow_targets.target narrow_table c.args.text.now (map tok c.in_ok-tokens.tokens.items)
-    (option_map tok c.in-Some.shape.label) c.in_ok-tokens.ensures.found
+    shape_found narrow_table c.args.text.now (map tok c.in_ok-tokens.tokens.items) (option_map tok c.in-Some.shape.label) c.in_ok-tokens.ensures.found
     (rw c.as_slice.ensures.value at c.in-Some.ensures.found)
 
 pub returns-in-Some-clause-only : goal.returns-in-Some-clause-only
 returns-in-Some-clause-only c =
-    shape_only narrow.HasTokens 2 narrow.label_of narrow_targets.target narrow_table c.args.text.now (map tok c.in_ok-tokens.tokens.items)
-    (option_map tok c.in-Some.shape.label) c.in_ok-tokens.ensures.only
+    shape_only narrow_table c.args.text.now (map tok c.in_ok-tokens.tokens.items) (option_map tok c.in-Some.shape.label) c.in_ok-tokens.ensures.only
     (rw c.as_slice.ensures.value at c.in-Some.ensures.only)
 
 pub returns-in-None-clause-only : goal.returns-in-None-clause-only
 returns-in-None-clause-only c i u n =
-    absurd (shape_none narrow.HasTokens 2 narrow.label_of narrow_targets.target narrow_table c.args.text.now (map tok c.in_ok-tokens.tokens.items)
-    c.in_ok-tokens.ensures.only
+    absurd (shape_none narrow_table c.args.text.now (map tok c.in_ok-tokens.tokens.items) c.in_ok-tokens.ensures.only
     (rw c.as_slice.ensures.value at c.in-None.ensures.only) i u n)

@@ -1,15 +1,10 @@
 use Rattle.std.proofs.Common.{map}
 use Rattle.hm_tokens.specs.Texts.{text_tokens}
 use Rattle.hm_tokens.specs.Tokens.{tok}
-use Rattle.hm_text32.proofs.Tails.{printed_else, printed_then}
+use Rattle.hm_text32.proofs.Tails.{printed_else}
 use Rattle.hm_text32.proofs.texts.is_text_of.Goals as goal
-
-pub returns-then-printed : goal.returns-then-printed
-returns-then-printed c =
-    printed_then c.args.i.now (map tok c.args.tokens.now) (text_tokens c.row_text.result) c.has_label.result c.has_text-printed.result c.requires.wide
-    c.has_label.ensures.value c.row_text.ensures.tokens c.has_text-printed.ensures.is c.if-printed.true
 
 pub returns-else-printed : goal.returns-else-printed
 returns-else-printed c =
-    printed_else c.args.i.now (map tok c.args.tokens.now) (text_tokens c.row_text.result) c.has_label.result c.has_text-printed.result c.is_other-other.result
-    c.requires.wide c.has_label.ensures.value c.row_text.ensures.tokens c.has_text-printed.ensures.is c.if-printed.false c.is_other-other.ensures
+    printed_else c.args.row.now (map tok c.args.tokens.now) (text_tokens c.row_text.result) c.has_label.result c.has_text-printed.result c.is_other-other.result
+    c.has_label.ensures.value c.row_text.ensures.tokens c.has_text-printed.ensures.is c.if-printed.false c.is_other-other.ensures
