@@ -4,8 +4,8 @@ use Rattle.hm_isa.specs.declared.Scalar.{Scalar}
 use Rattle.hm_isa.specs.contracts.Scalar as scalar_
 use Rattle.hm_isa.specs.declared.Branch.{Branch}
 use Rattle.hm_isa.specs.contracts.Branch as branch_
-use Rattle.hm_isa.specs.Code.{halves_by_width}
-use Rattle.hm_isa.specs.Widths.{branch_by_width, scalar_by_width}
+use Rattle.hm_isa.specs.declared.Instr.TheVariants as instr
+use Rattle.hm_isa.specs.Code.{halfwords}
 use Rattle.hm_layout.proofs.Coded.{Coded}
 use Rattle.hm_layout.proofs.Rows.{plain, named, split, varied, coded}
 use Rattle.hm_layout.proofs.Tables.{Table, of_table, ◌▹◌}
@@ -19,11 +19,12 @@ use Rattle.hm_codes.proofs.Widths.{halves_of, joined, joined_of}
 use Rattle.hm_codes.proofs.Branches.{row_s23, row_s24, coded_s25}
 use Rattle.hm_codes.proofs.JumpRows.{coded_t16, row_t17, coded_t23}
 
+-- the halfwords of a scalar instruction, and of a branch
 abbrev pub scalar_halves : Scalar → List ℕ
-scalar_halves s = halves_by_width (scalar_by_width s)
+scalar_halves s = halfwords (instr.Scalar s)
 
 abbrev pub branch_halves : Branch → List ℕ
-branch_halves b = halves_by_width (branch_by_width b)
+branch_halves b = halfwords (instr.Branch b)
 
 -- the codes of the first 21 are of one halfword
 abbrev pub scalar_table : Table scalar_.enum.parts

@@ -773,7 +773,7 @@ one_half c = c ∷ []
 abbrev pub two_halves : ℕ → List ℕ
 two_halves c = c / 65536 ∷ c % 65536 ∷ []
 
--- the code of an instruction of the rows S1 to S25
+-- the code of an instruction of the rows S1 to S21 and S23 to S25
 abbrev pub narrow_code : NarrowRow → ℕ
 narrow_code (narrow.S1 r) = code_s1 r
 narrow_code (narrow.S2 r) = code_s2 r

@@ -376,7 +376,7 @@ pub enum Flow {
     Return { value: u32 },
 }
 
-/// How many bytes the code of a scalar instruction has: 2 or 4. It is asked for in each tick, so without a copy of the row.
+/// How many bytes the code of a scalar instruction has: 2 or 4. A tick asks for this, so the row is not copied.
 fn scalar_width(i: &Scalar) -> u32
     ensures { result ≡ 2 * length (halves_by_width (scalar_by_width i.now)) }
 {

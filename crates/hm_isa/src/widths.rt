@@ -9,7 +9,8 @@ use crate::{
     T14, T15, T16, T17, T18, T19, T20, T21, T22, T23, Vector,
 };
 
-/// An instruction whose code is one halfword.
+/// An instruction whose code is one halfword, of the rows S1 to S21 and S23 to S25: DDI0553, "T32 instruction set encoding",
+/// the 16-bit codes.
 #[derive(Clone, Copy)]
 pub enum NarrowRow {
     S1(S1),
@@ -38,7 +39,8 @@ pub enum NarrowRow {
     S25(S25),
 }
 
-/// An instruction whose code is two halfwords, and which is no vector instruction.
+/// An instruction whose code is two halfwords, of the rows T1 to T23, and which is no vector instruction: DDI0553, "T32
+/// instruction set encoding", the 32-bit codes.
 #[derive(Clone, Copy)]
 pub enum WideRow {
     T1(T1),
@@ -137,7 +139,7 @@ fn branch_by_width(i: &Branch) -> ByWidth
     }
 }
 
-/// An instruction by the width of its code.
+/// The row of an instruction by the width of its code: one halfword, two, or a vector instruction's two.
 pub fn by_width(i: &Instr) -> ByWidth
     ensures value { result ≡ by_width i.now }
 {
