@@ -1,6 +1,6 @@
 //! Special registers, barriers, and scalar instructions on vector registers, read and written.
 
-ghost use Rattle.std.specs.Prelude.{◌≡◌, ◌<◌, IfSome, IfNone};
+ghost use Rattle.std.specs.Prelude.{◌≡◌, IfSome, IfNone};
 ghost use Rattle.hm_isa.specs.declared.system.ReadName.{ReadName};
 ghost use Rattle.hm_isa.specs.declared.system.WrittenName.{WrittenName};
 ghost use Rattle.hm_isa.specs.declared.system.BarrierName.{BarrierName};

@@ -1,6 +1,6 @@
 //! Shifts, products, quotients and choices, read and written.
 
-ghost use Rattle.std.specs.Prelude.{◌≡◌, ◌<◌, IfSome, IfNone};
+ghost use Rattle.std.specs.Prelude.{◌≡◌, IfSome, IfNone};
 ghost use Rattle.hm_isa.specs.declared.narrow.ExtendName.{ExtendName};
 ghost use Rattle.hm_isa.specs.declared.arith.WideShiftName.{WideShiftName};
 ghost use Rattle.hm_isa.specs.declared.arith.BitsName.{BitsName};

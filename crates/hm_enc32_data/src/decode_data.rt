@@ -7,7 +7,7 @@ ghost use Rattle.hm_isa.specs.declared.data.T2.{T2};
 ghost use Rattle.hm_isa.specs.declared.data.T3.{T3};
 ghost use Rattle.hm_isa.specs.declared.data.T4.{T4};
 ghost use Rattle.hm_isa.specs.DataRules.{is_constant, is_constant_row, is_first, is_result, is_shifted_row, is_stack_move, is_wide_sum};
-ghost use Rattle.hm_isa.specs.DataCodes.{data_operation, code_t1, code_t2, code_t3, code_t4, code_t5, code_t6, code_t7};
+ghost use Rattle.hm_isa.specs.DataCodes.{data_operation, code_t1, code_t2, code_t3, code_t4};
 ghost use Rattle.hm_layout.specs.Wide.{HasWord};
 ghost use Rattle.hm_enc32_data.specs.DataRows.{IsNoData};
 

@@ -1,6 +1,6 @@
 //! The rows of the vector codes: DDI0553, "M-profile Vector Extension".
 
-ghost use Rattle.std.specs.Prelude.{◌≡◌, ◌≢◌, ◌<◌, ◌≤◌, ◌+◌, ◌*◌, ◌^◌, IsTrue};
+ghost use Rattle.std.specs.Prelude.{◌≡◌, ◌≢◌, ◌<◌, ◌≤◌, ◌*◌, IsTrue};
 ghost use Rattle.hm_isa.specs.Letters.{constant_shift_amount, constant_shift_bits, constant_shift_size};
 ghost use Rattle.hm_isa.specs.Words.{zero_as_32};
 ghost use Rattle.hm_isa.specs.Rules.{has_size, is_reversed, is_shifted_by, is_signed_by, is_complex_sum, is_widened};
@@ -363,11 +363,7 @@ impl V11 {
         ensures most { self.now.x.value < 2 * result }
         ensures word { result ≤ 32 }
     {
-        match self.x.get() {
-            0..=15 => 8,
-            16..=31 => 16,
-            _ => 32,
-        }
+        8 << self.element_size().get()
     }
 
     /// By how many places it shifts, from 1 to 32 to the right and from 0 to 31 to the left: DDI0553, "VSHR" and its kin.

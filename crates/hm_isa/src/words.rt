@@ -1,6 +1,6 @@
 //! Words as instructions make them: shifts, signs, and constants of several fields.
 
-ghost use Rattle.std.specs.Prelude.{◌≡◌, ℕ, ◌+◌, ◌-◌, ◌*◌, ◌/◌, ◌%◌, ◌^◌, ◌<◌, ◌≤◌, Bool};
+ghost use Rattle.std.specs.Prelude.{◌≡◌, ◌*◌, ◌^◌, ◌<◌, ◌≤◌};
 ghost use Rattle.hm_isa.specs.Words.{asr_c, expand_imm_c, extended, imm12, imm16, imm5, imm8, is_by_carry, lsl_c, lsr_c, repeats, ror_c, rotated};
 ghost use Rattle.hm_isa.specs.Words.{shift_c, shift_number, shift_type, sign_extended, zero_as_32};
 

@@ -1,6 +1,6 @@
 //! The text of each row; of one with a label, what stands before that.
 
-ghost use Rattle.std.specs.Prelude.{◌≡◌, ℕ, ◌≤◌, ◌<◌, ◌+◌, ◌*◌, ◌∷◌, [], codes, length};
+ghost use Rattle.std.specs.Prelude.{◌≡◌, ℕ, ◌≤◌, ◌<◌, ◌*◌, ◌∷◌, [], codes, length};
 ghost use Rattle.hm_isa.specs.Letters.{access_size, plain_access};
 ghost use Rattle.hm_isa.specs.declared.widths.NarrowRow.TheVariants as narrow;
 ghost use Rattle.hm_text16_rows.specs.Rows.{list_tokens, load_start, row_tokens};

@@ -26,10 +26,10 @@ fn barrier_text(i: &T19) -> Option<InstrText>
 }
 
 /// The text of a row in its other spelling, where it has one.
-pub fn other_text(i: &WideRow) -> Option<InstrText>
-    ensures tokens { option_map text_tokens result ≡ other_tokens i.now }
+pub fn other_text(row: &WideRow) -> Option<InstrText>
+    ensures tokens { option_map text_tokens result ≡ other_tokens row.now }
 {
-    match i {
+    match row {
         WideRow::T19(i) => barrier_text(i),
         _ => None,
     }

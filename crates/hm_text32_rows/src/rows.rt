@@ -425,10 +425,10 @@ fn text_t23(i: &T23) -> InstrText
 }
 
 /// The text of a row of two halfwords that is no vector row; of one with a label, what stands before that.
-pub fn row_text(i: &WideRow) -> InstrText
-    ensures tokens { text_tokens result ≡ row_tokens i.now }
+pub fn row_text(row: &WideRow) -> InstrText
+    ensures tokens { text_tokens result ≡ row_tokens row.now }
 {
-    match i {
+    match row {
         WideRow::T1(i) => text_t1(i),
         WideRow::T2(i) => text_t2(i),
         WideRow::T3(i) => text_t3(i),

@@ -1,6 +1,6 @@
 //! Whether a row has a label, and the address that this names.
 
-ghost use Rattle.std.specs.Prelude.{◌≡◌, ◌<◌, ◌^◌};
+ghost use Rattle.std.specs.Prelude.{◌≡◌};
 ghost use Rattle.hm_text32_rows.specs.Rows.{has_label, has_label_loop};
 ghost use Rattle.hm_text32_rows.specs.Targets.{loop_target, target, wide_target};
 
@@ -18,10 +18,10 @@ fn has_label_loop(i: &T23) -> bool
 }
 
 /// Whether the last operand of a row of two halfwords is a label.
-pub fn has_label(i: &WideRow) -> bool
-    ensures value { result ≡ has_label i.now }
+pub fn has_label(row: &WideRow) -> bool
+    ensures value { result ≡ has_label row.now }
 {
-    match i {
+    match row {
         WideRow::T16(_) => true,
         WideRow::T23(i) => has_label_loop(i),
         _ => false,
@@ -51,10 +51,10 @@ fn loop_target(i: &T23, pc: u32) -> Option<u32>
 }
 
 /// The address that the label of a row of two halfwords names, where the instruction stands at `pc`; None where it has none.
-pub fn target(i: &WideRow, pc: u32) -> Option<u32>
-    ensures value { result ≡ target i.now pc }
+pub fn target(row: &WideRow, pc: u32) -> Option<u32>
+    ensures value { result ≡ target row.now pc }
 {
-    match i {
+    match row {
         WideRow::T16(i) => Some(wide_target(i, pc)),
         WideRow::T23(i) => loop_target(i, pc),
         _ => None,
