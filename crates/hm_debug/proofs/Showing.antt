@@ -19,6 +19,6 @@ shows_at f w t m film shows =
     timed_is m (run film.listing film.image film.schedule t) ((shows film.image film.schedule film.holds).now film.listing film.listed)
     ∙ ap (λ (x : Film). x.at t) (sym film.is)
 
--- flash at the start of a run
-pub start_flash : (f : Film) (w : Taped) (m : Shown) → IsFilm f w → ShowsTick w 0 m → flash_at m.memory ≡ f.flash
-start_flash f w m film shows = (shows film.image film.schedule film.holds).bytes ∙ ap (λ (x : Film). x.flash) (sym film.is)
+-- flash at a tick
+pub film_flash : (f : Film) (w : Taped) (t : ℕ) (m : Shown) → IsFilm f w → ShowsTick w t m → flash_at m.memory ≡ f.flash
+film_flash f w t m film shows = (shows film.image film.schedule film.holds).bytes ∙ ap (λ (x : Film). x.flash) (sym film.is)

@@ -52,18 +52,20 @@ fn show_memory(
     add_memory(out, machine_at(tape, tick), addr, len)
 }
 
-/// Adds lines of the listing. No tick changes flash: it is told at the start of the run, where it is that of the image.
+/// Adds lines of the listing, told at a tick: no tick changes flash.
 fn show_listing(
     out: &mut Vec<u8>,
     tape: &mut Tape,
     addr: u32,
     count: u32,
+    tick: u32,
 ) -> Result<(), OutOfMemory>
     requires fits { Fits (Command.Listing addr count) }
+    requires within { tick ≤ tape.old.last }
     ensures stays { tape.new ≡ tape.old }
     ensures added { (f : Film) → IsFilm f tape.old → IfOk result (λ _. out.new.items ≡ out.old.items ++ listing_lines f.flash f.listing addr count) }
 {
-    add_listing(out, machine_at(tape, 0), addr, count)
+    add_listing(out, machine_at(tape, tick), addr, count)
 }
 
 /// Does a command at a place: adds its answer, and gives the place after it.
@@ -94,7 +96,7 @@ fn answer(
             Ok(place)
         }
         Command::Listing { addr, count } => {
-            show_listing(out, tape, addr, count)?;
+            show_listing(out, tape, addr, count, place)?;
             Ok(place)
         }
     }
