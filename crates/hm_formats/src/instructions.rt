@@ -6,10 +6,7 @@ use hm_enc32::{decode32, encode32};
 use hm_encv::{decodev, encodev};
 use hm_isa::{ByWidth, Instr, by_width, width};
 use hm_text::{AsmKind, Labels, TextErr, parse_instr, print_instr, shape};
-use hm_text16::shape16;
-use hm_text32::shape32;
 use hm_textv::parse_v;
-use hm_tokens::read_tokens;
 
 /// The instruction whose code is two halfwords, the first in bits 31 to 16; of one table alone.
 fn long_instruction(code: u32) -> Result<Option<Instr>> {
@@ -101,30 +98,14 @@ pub fn check_refused(labels: &Labels, address: u32, text: &str, told: TextErr) -
     check_told(text, told)
 }
 
-/// Whether some row of one halfword has a text.
-fn is_narrow(text: &[u8]) -> bool {
-    match read_tokens(text) {
-        Some(tokens) => shape16(tokens.as_slice()).is_some(),
-        None => false,
-    }
-}
-
-/// Whether some row of two halfwords that is no vector row has a text.
-fn is_wide(text: &[u8]) -> bool {
-    match read_tokens(text) {
-        Some(tokens) => shape32(tokens.as_slice()).is_some(),
-        None => false,
-    }
-}
-
 /// The table, by its name, of the rows with a text.
 fn table_of(text: &[u8]) -> Result<&'static str> {
-    match (is_narrow(text), is_wide(text), parse_v(text).is_some()) {
-        (false, false, false) => Ok("none"),
-        (true, false, false) => Ok("narrow"),
-        (false, true, false) => Ok("wide"),
-        (false, false, true) => Ok("vector"),
-        _ => bail!("two tables have the text"),
+    match (shape(text), parse_v(text)) {
+        (Err(_), None) => Ok("none"),
+        (Ok(2), None) => Ok("narrow"),
+        (Ok(4), None) => Ok("wide"),
+        (Ok(4), Some(_)) => Ok("vector"),
+        _ => bail!("shape and parse_v differ"),
     }
 }
 
@@ -132,10 +113,5 @@ fn table_of(text: &[u8]) -> Result<&'static str> {
 pub fn check_table(table: &str, text: &str) -> Result<()> {
     let here = table_of(text.as_bytes())?;
     ensure!(here == table, "here {here}");
-    match table {
-        "none" => ensure!(shape(text.as_bytes()).is_err(), "it has a width"),
-        "narrow" => check_width(text, 2)?,
-        _ => check_width(text, 4)?,
-    }
     Ok(())
 }

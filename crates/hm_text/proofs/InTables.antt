@@ -1,27 +1,19 @@
 -- Texts read in all tables.
-use Rattle.std.proofs.Common.{◌≡◌, ◌⊎◌, ℕ, ◌≤◌, List, length, Option, Some, None, refl, sym, ap, subst, inl, inr, ◌∙◌, arith}
+use Rattle.std.proofs.Common.{◌≡◌, ℕ, ◌<◌, ◌≤◌, List, length, Option, Some, None, refl, sym, ap, subst, inl, inr, ◌∙◌, arith}
 use Rattle.std.specs.Prelude.{IfSome}
 use Rattle.hm_isa.specs.declared.Instr.{Instr}
 use Rattle.hm_isa.specs.declared.Instr.TheVariants.{Scalar, Branch, Vector}
 use Rattle.hm_isa.specs.declared.Vector.{Vector as VectorRow}
-use Rattle.hm_isa.specs.declared.widths.ByWidth.TheVariants as by
-use Rattle.hm_isa.specs.declared.widths.NarrowRow.{NarrowRow}
-use Rattle.hm_isa.specs.declared.widths.WideRow.{WideRow}
-use Rattle.hm_isa.specs.Widths.{by_width}
 use Rattle.hm_text_base.proofs.Steps.{some_is}
 use Rattle.hm_tokens.specs.Lines.{IsLineOf}
 use Rattle.hm_tokens.specs.Ranges.{normal}
 use Rattle.hm_tokens.specs.Tokens.{Tok, number}
 use Rattle.hm_tokens.proofs.Ranges.{normal_no_fewer}
 use Rattle.hm_text_rows.specs.Labels.{Reaches}
-use Rattle.hm_text_labels.specs.Texts as with_labels
-use Rattle.hm_text16_rows.specs.Rows as narrow_rows
-use Rattle.hm_text16.specs.Texts as narrow
-use Rattle.hm_text16.proofs.Laws as narrow_laws
-use Rattle.hm_text32.specs.Texts as wide
-use Rattle.hm_text32.proofs.Laws as wide_laws
 use Rattle.hm_textv_rows.specs.Rows as vectors
-use Rattle.hm_text.specs.Tables.{IsLongText, IsNarrowText, IsRowAt, IsTextIn, IsVectorText, IsWideText, Seen, label_of, target, width_of}
+use Rattle.hm_text.specs.Tables.{HasText, HasTokens, IsRowAt, IsRowOf, IsTokenText, IsVectorText, Seen, label_of, target, width_of}
+use Rattle.hm_text.proofs.Apart.{apart}
+use Rattle.hm_text.proofs.Rows.{at_nearest, few_tokens}
 
 abbrev these : List Tok → Option (List Tok)
 these ts = Some ts
@@ -32,45 +24,6 @@ no_tokens = None
 -- what is read of a text of at most 40 tokens
 abbrev pub AreRead : List ℕ → Option (List Tok) → Type 0
 AreRead text o = (ts : List Tok) → IsLineOf text ts → length ts ≤ 40 → o ≡ Some ts
-
--- A TABLE: which tokens its rows have, how many bytes their codes have, their labels, and the addresses that these name
-abbrev pub Tokens : Type 1
-Tokens = Instr → Tok → List Tok → Type 0
-
-pub record IsTable (Has : Tokens) (w : ℕ) (label : Instr → Tok → Option Tok) (goes : Instr → ℕ → Option ℕ) : Type 0 where
-  pub few : (i : Instr) (t : Tok) (ts : List Tok) → Has i t ts → length ts ≤ 40
-  pub width : (i : Instr) (t : Tok) (ts : List Tok) → Has i t ts → w ≡ width_of i
-  pub labelled : (i : Instr) (t : Tok) (ts : List Tok) → Has i t ts → label i t ≡ label_of i t
-  pub aimed : (i : Instr) (t : Tok) (ts : List Tok) (pc : ℕ) → Has i t ts → goes i pc ≡ target i pc
-
--- the row of an instruction is one, and so the tokens are its
-narrow_is : (r s : NarrowRow) → by.Narrow r ≡ by.Narrow s → r ≡ s
-narrow_is r s e = cc
-
-pub narrow_tokens : (i : Instr) (r : NarrowRow) (t : Tok) (ts : List Tok) → by_width i ≡ by.Narrow r → narrow.HasTokens i t ts → narrow_rows.tokens_of r t ≡ ts
-narrow_tokens i r t ts is has = subst (λ (x : NarrowRow). narrow_rows.tokens_of x t ≡ ts) (narrow_is has.row r (sym has.is ∙ is)) has.tokens
-
-wide_is : (r s : WideRow) → by.Wide r ≡ by.Wide s → r ≡ s
-wide_is r s e = cc
-
-pub wide_tokens : (i : Instr) (r : WideRow) (t : Tok) (ts : List Tok) → by_width i ≡ by.Wide r → wide.HasTokens i t ts → wide.AreTokens r t ts
-wide_tokens i r t ts is has = subst (λ (x : WideRow). wide.AreTokens x t ts) (wide_is has.row r (sym has.is ∙ is)) has.tokens
-
-pub narrow_table : IsTable narrow.HasTokens 2 narrow.label_of narrow.target_of
-narrow_table = record {
-  few = λ i t ts has. narrow_laws.few_tokens i t ts has;
-  width = λ i t ts has. rw has.is refl;
-  labelled = λ i t ts has. rw has.is refl;
-  aimed = λ i t ts pc has. rw has.is refl;
-}
-
-pub wide_table : IsTable wide.HasTokens 4 wide.label_of wide.target_of
-wide_table = record {
-  few = λ i t ts has. wide_laws.few_tokens i t ts has;
-  width = λ i t ts has. rw has.is refl;
-  labelled = λ i t ts has. rw has.is refl;
-  aimed = λ i t ts pc has. rw has.is refl;
-}
 
 abbrev pub seen_of : Instr → Tok → Seen
 seen_of i t = (width_of i, label_of i t)
@@ -84,62 +37,58 @@ nothing = None
 pub seen_parts : (w : ℕ) (l : Option Tok) (x : Seen) → given (w, l) ≡ given x → (w ≡ x.0) × (l ≡ x.1)
 seen_parts w l x e = let same = some_is (w, l) x e in (ap (λ (s : Seen). s.0) same, ap (λ (s : Seen). s.1) same)
 
-module _ {Has : Tokens} {w : ℕ} {label : Instr → Tok → Option Tok} {goes : Instr → ℕ → Option ℕ} (table : IsTable Has w label goes) (text : List ℕ) where
-  few : (i : Instr) (t : Tok) (n : IsTextIn Has text i t) → length n.tokens ≤ 40
+-- what is the same for all rows with the same tokens, by the one whose label is near
+pub seen_near : (ts : List Tok) (i : Instr) (w : ℕ) (s : Option Tok) → w ≡ width_of i → ((j : Instr) → IsRowOf ts 0 4 j → given i ≡ given j)
+    → ((t : Tok) → HasTokens i t ts → s ≡ label_of i t) → (j : Instr) (t : Tok) → HasTokens j t ts → given (w, s) ≡ given (seen_of j t)
+seen_near ts i w s bytes only says j t has =
+    let n = at_nearest j t ts has in
+    let is : i ≡ n.0 = some_is i n.0 (only n.0 n.1) in
+    let mine : HasTokens i n.1.label ts = subst (λ (x : Instr). HasTokens x n.1.label ts) (sym is) n.1.has in
+    let same : w ≡ width_of j = bytes ∙ ap width_of is ∙ n.3 in
+    let label : s ≡ label_of j t = says n.1.label mine ∙ ap (λ (x : Instr). label_of x n.1.label) is ∙ n.2 in
+    λ k. Some (same k, label k)
+
+pub none_near : (ts : List Tok) → ((j : Instr) → IsRowOf ts 0 4 j → ⊥) → (j : Instr) (t : Tok) → HasTokens j t ts → ⊥
+none_near ts none j t has = let n = at_nearest j t ts has in none n.0 n.1
+
+-- rows have few tokens
+pub too_many_tokens : (ts : List Tok) → 40 < length (normal ts) → (i : Instr) (t : Tok) → HasTokens i t (normal ts) → ⊥
+too_many_tokens ts lt i t has = let few = few_tokens i t (normal ts) has in omega (arith, few, lt)
+
+pub too_many : (ts : List Tok) (pc a : ℕ) → 40 < length (normal ts) → (i : Instr) → IsRowOf (normal ts) pc a i → ⊥
+too_many ts pc a lt i is = too_many_tokens ts lt i is.label is.has
+
+-- ROWS THAT ARE NO VECTOR ROWS
+module _ (text : List ℕ) where
+  few : (i : Instr) (t : Tok) (n : IsTokenText text i t) → length n.tokens ≤ 40
   few i t n =
-      let single = table.few i t (normal n.tokens) n.has in
+      let single = few_tokens i t (normal n.tokens) n.has in
       let more = normal_no_fewer n.tokens in
       omega (arith, single, more)
 
-  pub none_read : AreRead text no_tokens → (i : Instr) (t : Tok) → IsTextIn Has text i t → ⊥
+  pub none_read : AreRead text no_tokens → (i : Instr) (t : Tok) → IsTokenText text i t → ⊥
   none_read read i t n = let e = read n.tokens n.line (few i t n) in cc
 
-  same_read : (ts : List Tok) → AreRead text (these ts) → (i : Instr) (t : Tok) (n : IsTextIn Has text i t) → n.tokens ≡ ts
+  same_read : (ts : List Tok) → AreRead text (these ts) → (i : Instr) (t : Tok) (n : IsTokenText text i t) → n.tokens ≡ ts
   same_read ts read i t n = sym (some_is ts n.tokens (read n.tokens n.line (few i t n)))
 
-  read_has : (ts : List Tok) → AreRead text (these ts) → (i : Instr) (t : Tok) → IsTextIn Has text i t → Has i t (normal ts)
-  read_has ts read i t n = subst (λ (x : List Tok). Has i t (normal x)) (same_read ts read i t n) n.has
+  pub read_has : (ts : List Tok) → AreRead text (these ts) → (i : Instr) (t : Tok) → IsTokenText text i t → HasTokens i t (normal ts)
+  read_has ts read i t n = subst (λ (x : List Tok). HasTokens i t (normal x)) (same_read ts read i t n) n.has
 
-  -- shapes
-  pub shape_found : (ts : List Tok) (l : Option Tok) → IsLineOf text ts → (i : Instr) × (t : Tok) × Has i t (normal ts) × (label i t ≡ l)
-      → (i : Instr) × (t : Tok) × IsTextIn Has text i t × (w ≡ width_of i) × (l ≡ label_of i t)
-  shape_found ts l line f = (
-    f.0,
-    f.1,
-    record { tokens = ts; line = line; has = f.2 },
-    table.width f.0 f.1 (normal ts) f.2,
-    sym f.3 ∙ table.labelled f.0 f.1 (normal ts) f.2,
-  )
+  pub shape_found : {A : Type 0} (ts : List Tok) (r : Option A) (width : A → ℕ) (label : A → Option Tok) → IsLineOf text ts
+      → IfSome r (λ s. (i : Instr) × (t : Tok) × HasTokens i t (normal ts) × (width s ≡ width_of i) × (label s ≡ label_of i t))
+      → IfSome r (λ s. (i : Instr) × (t : Tok) × IsTokenText text i t × (width s ≡ width_of i) × (label s ≡ label_of i t))
+  shape_found ts (Some s) width label line f = (f.0, f.1, record { tokens = ts; line = line; has = f.2 }, f.3, f.4)
+  shape_found ts None width label line f = tt
 
-  pub shape_only : (ts : List Tok) (l : Option Tok) → AreRead text (these ts) → ((i : Instr) (t : Tok) → Has i t (normal ts) → given l ≡ given (label i t))
-      → (i : Instr) (t : Tok) → IsTextIn Has text i t → given (w, l) ≡ given (seen_of i t)
-  shape_only ts l read only i t n =
-      let has = read_has ts read i t n in
-      ap (λ (s : Seen). Some s) (pair (table.width i t (normal ts) has) (some_is l (label i t) (only i t has) ∙ table.labelled i t (normal ts) has))
-    where
-      pair : w ≡ width_of i → l ≡ label_of i t → (w, l) ≡ seen_of i t
-      pair p q = λ j. (p j, q j)
-
-  pub shape_none : (ts : List Tok) → AreRead text (these ts) → ((i : Instr) (t : Tok) → Has i t (normal ts) → nothing ≡ given (label i t))
-      → (i : Instr) (t : Tok) → IsTextIn Has text i t → ⊥
-  shape_none ts read only i t n = let e = only i t (read_has ts read i t n) in cc
-
-  -- rows at an address
-  pub at_found : (ts : List Tok) (pc a : ℕ) (r : Option Instr) → IsLineOf text ts → IfSome r (λ i. with_labels.IsRowAt Has goes (normal ts) pc a i)
-      → IfSome r (λ i. (t : Tok) × IsTextIn Has text i t × Reaches (target i pc) a)
-  at_found ts pc a (Some i) line is = (
-    is.label,
-    record { tokens = ts; line = line; has = is.has },
-    subst (λ (o : Option ℕ). Reaches o a) (table.aimed i is.label (normal ts) pc is.has) is.reaches,
-  )
+  pub at_found : (ts : List Tok) (pc a : ℕ) (r : Option Instr) → IsLineOf text ts → IfSome r (λ i. IsRowOf (normal ts) pc a i)
+      → IfSome r (λ i. (t : Tok) × IsTokenText text i t × Reaches (target i pc) a)
+  at_found ts pc a (Some i) line is = (is.label, record { tokens = ts; line = line; has = is.has }, is.reaches)
   at_found ts pc a None line is = tt
 
-  pub at_only : (ts : List Tok) (pc a : ℕ) (r : Option Instr) → AreRead text (these ts)
-      → ((i : Instr) → with_labels.IsRowAt Has goes (normal ts) pc a i → r ≡ Some i) → (i : Instr) (t : Tok)
-      → IsTextIn Has text i t → Reaches (target i pc) a → r ≡ Some i
-  at_only ts pc a r read only i t n re =
-      let has = read_has ts read i t n in
-      only i (record { label = t; has = has; reaches = subst (λ (o : Option ℕ). Reaches o a) (sym (table.aimed i t (normal ts) pc has)) re })
+  pub at_only : (ts : List Tok) (pc a : ℕ) (r : Option Instr) → AreRead text (these ts) → ((i : Instr) → IsRowOf (normal ts) pc a i → r ≡ Some i)
+      → (i : Instr) (t : Tok) → IsTokenText text i t → Reaches (target i pc) a → r ≡ Some i
+  at_only ts pc a r read only i t n re = only i (record { label = t; has = read_has ts read i t n; reaches = re })
 
 -- VECTOR ROWS
 pub vector_found : (text : List ℕ) (v : VectorRow) → vectors.IsTextOf text v
@@ -167,64 +116,40 @@ vector_reaches text (Scalar i) pc a is = absurd is
 vector_reaches text (Branch i) pc a is = absurd is
 vector_reaches text (Vector v) pc a is = tt
 
-pub vector_at_found : (text : List ℕ) (pc a : ℕ) (r : Option Instr) → IfSome r (λ i. IsVectorText text i)
-    → IfSome r (λ i. (t : Tok) × IsVectorText text i × Reaches (target i pc) a)
-vector_at_found text pc a (Some i) is = (number 0, is, vector_reaches text i pc a is)
-vector_at_found text pc a None is = tt
+-- ROWS THAT ARE NO VECTOR ROWS, AND THEN THOSE: no text is of both
+module _ (text : List ℕ) where
+  pub first_only : (s : Option Seen) (j : Instr) (u : Tok) → IsTokenText text j u
+      → ((i : Instr) (t : Tok) → IsTokenText text i t → s ≡ given (seen_of i t)) → (i : Instr) (t : Tok) → HasText i t text → s ≡ given (seen_of i t)
+  first_only s j u p only i t (inl n) = only i t n
+  first_only s j u p only i t (inr v) = absurd (apart text j i u t p v)
 
--- ONE TABLE AND THEN ANOTHER, where no text is of both
-abbrev pub Texts : Type 1
-Texts = Instr → Tok → Type 0
+  pub first_at : (pc a : ℕ) (r : Option Instr) (j : Instr) (u : Tok) → IsTokenText text j u
+      → ((i : Instr) (t : Tok) → IsTokenText text i t → Reaches (target i pc) a → r ≡ Some i) → (i : Instr) → IsRowAt text pc a i → r ≡ Some i
+  first_at pc a r j u p only i is = by_table is.has
+    where
+      by_table : HasText i is.label text → r ≡ Some i
+      by_table (inl n) = only i is.label n is.reaches
+      by_table (inr v) = absurd (apart text j i u is.label p v)
 
-module _ (P Q : Texts) (apart_ : (i j : Instr) (t u : Tok) → P i t → Q j u → ⊥) where
-  pub first_only : (s : Option Seen) (j : Instr) (u : Tok) → P j u → ((i : Instr) (t : Tok) → P i t → s ≡ given (seen_of i t)) → (i : Instr) (t : Tok)
-      → P i t ⊎ Q i t → s ≡ given (seen_of i t)
-  first_only s j u p only i t (inl m) = only i t m
-  first_only s j u p only i t (inr v) = absurd (apart_ j i u t p v)
-
-  pub first_at : (pc a : ℕ) (r : Option Instr) (j : Instr) (u : Tok) → P j u → ((i : Instr) (t : Tok) → P i t → Reaches (target i pc) a → r ≡ Some i)
-      → (i : Instr) (t : Tok) → P i t ⊎ Q i t → Reaches (target i pc) a → r ≡ Some i
-  first_at pc a r j u p only i t (inl m) re = only i t m re
-  first_at pc a r j u p only i t (inr v) re = absurd (apart_ j i u t p v)
-
-module _ (P Q : Texts) where
   pub then_found : {A : Type 0} (r : Option A) (width : A → ℕ) (label : A → Option Tok)
-      → IfSome r (λ s. (i : Instr) × (t : Tok) × Q i t × (width s ≡ width_of i) × (label s ≡ label_of i t))
-      → IfSome r (λ s. (i : Instr) × (t : Tok) × (P i t ⊎ Q i t) × (width s ≡ width_of i) × (label s ≡ label_of i t))
+      → IfSome r (λ s. (i : Instr) × (t : Tok) × IsVectorText text i × (width s ≡ width_of i) × (label s ≡ label_of i t))
+      → IfSome r (λ s. (i : Instr) × (t : Tok) × HasText i t text × (width s ≡ width_of i) × (label s ≡ label_of i t))
   then_found (Some s) width label f = (f.0, f.1, inr f.2, f.3, f.4)
   then_found None width label f = tt
 
-  pub then_only : (s : Option Seen) → ((i : Instr) (t : Tok) → P i t → nothing ≡ given (seen_of i t))
-      → ((i : Instr) (t : Tok) → Q i t → s ≡ given (seen_of i t))
-      → (i : Instr) (t : Tok) → P i t ⊎ Q i t → s ≡ given (seen_of i t)
-  then_only s none only i t (inl m) = absurd (let e = none i t m in cc)
+  pub then_only : (s : Option Seen) → ((i : Instr) (t : Tok) → IsTokenText text i t → nothing ≡ given (seen_of i t))
+      → ((i : Instr) (t : Tok) → IsVectorText text i → s ≡ given (seen_of i t)) → (i : Instr) (t : Tok) → HasText i t text → s ≡ given (seen_of i t)
+  then_only s none only i t (inl n) = absurd (let e = none i t n in cc)
   then_only s none only i t (inr v) = only i t v
 
-  pub then_at_found : (pc a : ℕ) (r : Option Instr) → IfSome r (λ i. (t : Tok) × Q i t × Reaches (target i pc) a)
-      → IfSome r (λ i. (t : Tok) × (P i t ⊎ Q i t) × Reaches (target i pc) a)
-  then_at_found pc a (Some i) f = (f.0, inr f.1, f.2)
-  then_at_found pc a None f = tt
+  pub vector_at : (pc a : ℕ) (r : Option Instr) → IfSome r (λ i. IsVectorText text i) → IfSome r (λ i. IsRowAt text pc a i)
+  vector_at pc a (Some i) is = record { label = number 0; has = inr is; reaches = vector_reaches text i pc a is }
+  vector_at pc a None is = tt
 
-  pub then_at : (pc a : ℕ) (r : Option Instr) → ((i : Instr) (t : Tok) → P i t → Reaches (target i pc) a → nothing ≡ given i)
-      → ((i : Instr) (t : Tok) → Q i t → Reaches (target i pc) a → r ≡ Some i)
-      → (i : Instr) (t : Tok) → P i t ⊎ Q i t → Reaches (target i pc) a → r ≡ Some i
-  then_at pc a r none only i t (inl m) re = absurd (let e = none i t m re in cc)
-  then_at pc a r none only i t (inr v) re = only i t v re
-
--- these two: vector rows behind the others of two halfwords, and both behind those of one
-abbrev pub Narrow : List ℕ → Texts
-Narrow text i t = IsNarrowText text i t
-
-abbrev pub Wide : List ℕ → Texts
-Wide text i t = IsWideText text i t
-
-abbrev pub Of_vectors : List ℕ → Texts
-Of_vectors text i t = IsVectorText text i
-
-abbrev pub Long : List ℕ → Texts
-Long text i t = IsLongText text i t
-
-pub row_found : (text : List ℕ) (pc a : ℕ) (r : Option Instr) → IfSome r (λ i. (t : Tok) × (Narrow text i t ⊎ Long text i t) × Reaches (target i pc) a)
-    → IfSome r (λ i. IsRowAt text pc a i)
-row_found text pc a (Some i) f = record { label = f.0; has = f.1; reaches = f.2 }
-row_found text pc a None f = tt
+  pub then_at : (pc a : ℕ) (r : Option Instr) → ((i : Instr) (t : Tok) → IsTokenText text i t → Reaches (target i pc) a → nothing ≡ given i)
+      → ((i : Instr) → IsVectorText text i → r ≡ Some i) → (i : Instr) → IsRowAt text pc a i → r ≡ Some i
+  then_at pc a r none only i is = by_table is.has
+    where
+      by_table : HasText i is.label text → r ≡ Some i
+      by_table (inl n) = absurd (let e = none i is.label n is.reaches in cc)
+      by_table (inr v) = only i v

@@ -4,36 +4,30 @@ use Rattle.hm_codes.proofs.Unique.{unique_code}
 use Rattle.hm_isa.specs.declared.Instr.{Instr}
 use Rattle.hm_isa.specs.declared.Instr.TheVariants.{Vector}
 use Rattle.hm_isa.specs.declared.Vector.{Vector as VectorRow}
+use Rattle.hm_isa.specs.declared.widths.ByWidth.{ByWidth}
 use Rattle.hm_isa.specs.declared.widths.ByWidth.TheVariants as by
 use Rattle.hm_isa.specs.declared.widths.NarrowRow.{NarrowRow}
 use Rattle.hm_isa.specs.declared.widths.WideRow.{WideRow}
 use Rattle.hm_isa.specs.Widths.{by_width}
 use Rattle.hm_line.specs.declared.form.Form.TheVariants as forms
 use Rattle.hm_line.specs.Texts.{IsOfForm}
-use Rattle.hm_tokens.specs.Lines.{printed}
+use Rattle.hm_tokens.specs.Lines.{IsLineOf, printed}
 use Rattle.hm_tokens.specs.Ranges.{normal}
 use Rattle.hm_tokens.specs.Tokens.{Tok, number}
 use Rattle.hm_text_rows.specs.Labels.{NamesTarget, printed_with}
-use Rattle.hm_text_rows.proofs.Shown.{IsGiven, IsPrintedRow}
-use Rattle.hm_text_labels.specs.Texts as with_labels
+use Rattle.hm_text_rows.proofs.Shown.{IsGiven, IsPrintedRow, again_of}
 use Rattle.hm_text16_rows.specs.Rows as narrow_rows
-use Rattle.hm_text16_rows.specs.Targets as narrow_targets
-use Rattle.hm_text16_codes.proofs.Rows as narrow_asked
-use Rattle.hm_text16.specs.Texts as narrow
-use Rattle.hm_text16.proofs.Laws as narrow_laws
+use Rattle.hm_text16_codes.proofs.Rows as narrow_laws
 use Rattle.hm_text32_rows.specs.Rows as wide_rows
-use Rattle.hm_text32_rows.specs.Targets as wide_targets
-use Rattle.hm_text32_codes.proofs.Rows as wide_asked
-use Rattle.hm_text32.specs.Texts as wide
-use Rattle.hm_text32.proofs.Laws as wide_laws
+use Rattle.hm_text32_codes.proofs.Rows as wide_laws
 use Rattle.hm_textv_rows.specs.Rows as vectors
-use Rattle.hm_textv.proofs.Laws as vector_laws
-use Rattle.hm_text.specs.Tables.{HasText, IsTextIn, width_of}
+use Rattle.hm_textv_codes.proofs.Rows as vector_laws
+use Rattle.hm_text.specs.Tables.{AreOfRow, HasTokens, has_label_by, printed_by, target_by, width_of}
 use Rattle.hm_text.specs.Texts.{HasWidth, IsTextOf}
 use Rattle.hm_text.proofs.Formed.{Formed, formed_text}
 use Rattle.hm_text.proofs.FormedNarrow.{formed_narrow}
 use Rattle.hm_text.proofs.FormedVectors.{formed_vector}
-use Rattle.hm_text.proofs.InTables.{IsTable, Tokens, narrow_table, wide_table}
+use Rattle.hm_text.proofs.Rows.{given_by}
 use Rattle.hm_text.proofs.WideRows.{formed_wide}
 
 -- the form
@@ -48,29 +42,36 @@ text_form : (b : Bool) (row : List Tok) (o : Option ℕ) (text : List ℕ) → I
     → ((a : ℕ) → Formed (cond b (row ++ number a ∷ []) row)) → text ≡ printed_with row o → IsOfForm forms.Instruction text
 text_form b row o text p given f is = subst (λ (x : List ℕ). IsOfForm forms.Instruction x) (sym is) (printed_form b row o p given f)
 
--- what a table reads of a text all of them read of it
-in_table : {Has : Tokens} {w : ℕ} {label : Instr → Tok → Option Tok} {goes : Instr → ℕ → Option ℕ} → IsTable Has w label goes → (i : Instr) (pc : ℕ)
-    (text : List ℕ) (labels : List ℕ → Option ℕ) → IsOfForm forms.Instruction text → ((t : Tok) → IsTextIn Has text i t → HasText i t text)
-    → with_labels.IsTextOf Has goes text pc labels i → IsTextOf text pc labels i
-in_table table i pc text labels form has read = record {
-  label = read.label;
-  row = record { form = form; has = has read.label (record { tokens = read.tokens; line = read.line; has = read.has }) };
-  names = subst (λ (o : Option ℕ). NamesTarget labels read.label o) (table.aimed i read.label (normal read.tokens) pc read.has) read.names;
-}
+-- a row that is no vector row, by what its table says of its tokens
+row_printed : (i : Instr) (w : ByWidth) (row : List Tok) (pc : ℕ) (text : List ℕ) → by_width i ≡ w → IsPrintedRow (has_label_by w) row
+    → ((a : ℕ) → Formed (cond (has_label_by w) (row ++ number a ∷ []) row))
+    → ((t : Tok) (ts : List Tok) → cond (has_label_by w) (row ++ t ∷ []) row ≡ ts → AreOfRow w t ts) → text ≡ printed_with row (target_by w pc)
+    → (labels : List ℕ → Option ℕ) → IsTextOf text pc labels i
+row_printed i w row pc text by_table prints formed are is labels =
+    let given = given_by w pc in
+    let again = again_of (has_label_by w) row (target_by w pc) labels prints given in
+    let has : HasTokens i again.label (normal again.tokens) = record {
+      label = again.is_label;
+      tokens = subst (λ (v : ByWidth). AreOfRow v again.label (normal again.tokens)) (sym by_table) (are again.label (normal again.tokens) again.has);
+    } in
+    record {
+      label = again.label;
+      row = record {
+        form = text_form (has_label_by w) row (target_by w pc) text prints given formed is;
+        has = inl (record { tokens = again.tokens; line = subst (λ (x : List ℕ). IsLineOf x again.tokens) (sym is) again.line; has = has });
+      };
+      names = subst (λ (v : ByWidth). NamesTarget labels again.label (target_by v pc)) (sym by_table) again.names;
+    }
 
-pub narrow_printed : (i : Instr) (r : NarrowRow) (pc : ℕ) (text : List ℕ) → text ≡ narrow.text_of r (narrow_targets.target r pc)
-    → ((labels : List ℕ → Option ℕ) → narrow.IsTextOf text pc labels i) → (labels : List ℕ → Option ℕ) → IsTextOf text pc labels i
-narrow_printed i r pc text is read labels =
-    let form = text_form (narrow_rows.has_label r) (narrow_rows.row_tokens r) (narrow_targets.target r pc) text (narrow_asked.row_law r).prints
-    (narrow_laws.given_target r pc) (λ a. formed_narrow r a) is in
-    in_table narrow_table i pc text labels form (λ t n. inl n) (read labels)
+pub narrow_printed : (i : Instr) (r : NarrowRow) (pc : ℕ) (text : List ℕ) → by_width i ≡ by.Narrow r → text ≡ printed_by (by.Narrow r) pc
+    → (labels : List ℕ → Option ℕ) → IsTextOf text pc labels i
+narrow_printed i r pc text e is labels =
+    row_printed i (by.Narrow r) (narrow_rows.row_tokens r) pc text e (narrow_laws.row_law r).prints (λ a. formed_narrow r a) (λ t ts are. are) is labels
 
-pub wide_printed : (i : Instr) (r : WideRow) (pc : ℕ) (text : List ℕ) → text ≡ wide.text_of r (wide_targets.target r pc)
-    → ((labels : List ℕ → Option ℕ) → wide.IsTextOf text pc labels i) → (labels : List ℕ → Option ℕ) → IsTextOf text pc labels i
-wide_printed i r pc text is read labels =
-    let form = text_form (wide_rows.has_label r) (wide_rows.row_tokens r) (wide_targets.target r pc) text (wide_asked.row_law r).prints
-    (wide_laws.given_target r pc) (λ a. formed_wide r a) is in
-    in_table wide_table i pc text labels form (λ t n. inr (inl n)) (read labels)
+pub wide_printed : (i : Instr) (r : WideRow) (pc : ℕ) (text : List ℕ) → by_width i ≡ by.Wide r → text ≡ printed_by (by.Wide r) pc
+    → (labels : List ℕ → Option ℕ) → IsTextOf text pc labels i
+wide_printed i r pc text e is labels =
+    row_printed i (by.Wide r) (wide_rows.row_tokens r) pc text e (wide_laws.row_law r).prints (λ a. formed_wide r a) (λ t ts are. inl are) is labels
 
 -- an instruction of this width is a vector row
 vector_is : (i : Instr) (v : VectorRow) → by_width i ≡ by.Vector v → Vector v ≡ i
@@ -82,7 +83,7 @@ vector_printed i v pc text e is read labels =
     let form = formed_text (vectors.tokens_of v) (printed (vectors.tokens_of v)) (vector_laws.row_law v).prints.again (formed_vector v) in
     let here : IsTextOf text pc labels (Vector v) = record {
       label = number 0;
-      row = record { form = subst (λ (x : List ℕ). IsOfForm forms.Instruction x) (sym is) form; has = inr (inr read) };
+      row = record { form = subst (λ (x : List ℕ). IsOfForm forms.Instruction x) (sym is) form; has = inr read };
       names = tt;
     } in
     subst (λ (x : Instr). IsTextOf text pc labels x) (vector_is i v e) here

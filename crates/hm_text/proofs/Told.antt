@@ -3,9 +3,6 @@ use Rattle.std.proofs.Common.{◌≡◌, ℕ, Bool, true, false, cond, List, Opt
 use Rattle.std.specs.Prelude.{◌↔◌, MatchOption}
 use Rattle.hm_isa.specs.declared.Instr.{Instr}
 use Rattle.hm_isa.specs.declared.Instr.TheVariants.{Scalar, Branch, Vector}
-use Rattle.hm_isa.specs.declared.widths.ByWidth.{ByWidth}
-use Rattle.hm_isa.specs.declared.widths.ByWidth.TheVariants as by
-use Rattle.hm_isa.specs.Widths.{by_width}
 use Rattle.hm_line.specs.declared.errors.AsmKind.{AsmKind}
 use Rattle.hm_line.specs.declared.errors.AsmKind.TheVariants as kinds
 use Rattle.hm_line.specs.declared.errors.TextErr.{TextErr}
@@ -16,13 +13,12 @@ use Rattle.hm_text_base.proofs.Steps.{some_is}
 use Rattle.hm_tokens.specs.Tokens.{Tok, word, number, mark, skip}
 use Rattle.hm_text_rows.specs.Labels.{IsLabel, Names, NamesTarget, Reaches}
 use Rattle.hm_text_rows.proofs.Shown.{IsGiven}
-use Rattle.hm_text16.proofs.Laws as narrow_laws
-use Rattle.hm_text32.proofs.Laws as wide_laws
 use Rattle.hm_text.specs.Named.{IsUnknown, IsUnknownGiven, NamesGiven}
 use Rattle.hm_text.specs.Refusals.{IsAtLabel, IsMissing, IsOutOfReach, IsShapeRefused, IsTextRefused}
-use Rattle.hm_text.specs.Tables.{HasText, IsRowAt, IsVectorText, has_label, has_label_by, label_of, target, target_by}
+use Rattle.hm_text.specs.Tables.{HasText, IsRowAt, IsVectorText, has_label, label_of, target}
 use Rattle.hm_text.specs.Texts.{HasWidth, IsOnlyShape, IsRowText, IsShape, IsTextOf}
 use Rattle.hm_text.proofs.Formed.{last_there}
+use Rattle.hm_text.proofs.Rows.{given_target}
 
 abbrev Labels : Type 0
 Labels = List ℕ → Option ℕ
@@ -68,17 +64,7 @@ vector_label text (Vector v) is e = absurd cc
 
 is_label : (text : List ℕ) (i : Instr) (t : Tok) → HasText i t text → has_label i ≡ true → IsLabel t
 is_label text i t (inl n) e = n.has.label
-is_label text i t (inr (inl w)) e = w.has.label
-is_label text i t (inr (inr v)) e = absurd (vector_label text i v e)
-
--- a target where there is a label
-given_by : (w : ByWidth) (pc : ℕ) → IsGiven (has_label_by w) (target_by w pc)
-given_by (by.Narrow r) pc = narrow_laws.given_target r pc
-given_by (by.Wide r) pc = wide_laws.given_target r pc
-given_by (by.Vector v) pc = tt
-
-pub given_target : (i : Instr) (pc : ℕ) → IsGiven (has_label i) (target i pc)
-given_target i pc = given_by (by_width i) pc
+is_label text i t (inr v) e = absurd (vector_label text i v e)
 
 reach_without : (b : Bool) (o : Option ℕ) (a : ℕ) → IsGiven b o → b ≡ false → Reaches o a
 reach_without b None a g e = tt

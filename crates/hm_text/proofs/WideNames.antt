@@ -1,33 +1,36 @@
 -- The mnemonic of a row of two halfwords that is no vector row: no row of one halfword has it, and no vector row has it but `vmov.32`,
 -- which there has a lane.
-use Rattle.std.proofs.Common.{◌≡◌, ◌⊎◌, ℕ, zero, suc, Bool, true, false, cond, List, [], ◌∷◌, get_or, Option, Some, None, refl, inl, inr}
-use Rattle.std.specs.Prelude.{bytes_eq, codes, is_none, not, ◌&&◌, ◌||◌, ◌==◌}
-use Rattle.std.specs.Option.{option_or}
-use Rattle.std.proofs.lemmas.Bool.{and_parts, false≢true}
+use Rattle.std.proofs.Common.{◌≡◌, ◌⊎◌, ℕ, zero, suc, ◌%◌, ◌<◌, Bool, true, false, List, [], ◌∷◌, ◌++◌, refl, sym, ap, inl, inr, ◌∙◌, arith}
+use Rattle.std.specs.Prelude.{bytes_eq, codes, is_none, not, ◌&&◌, ◌||◌}
+use Rattle.std.proofs.lemmas.Bool.{agree_below, agree_below_at, and_parts, false≢true}
+use Rattle.hm_isa.specs.declared.Vector.{Vector}
+use Rattle.hm_isa.specs.declared.narrow.ListName.{ListName}
+use Rattle.hm_isa.specs.declared.narrow.S25.TheVariants as s25
+use Rattle.hm_isa.specs.declared.widths.NarrowRow.{NarrowRow}
+use Rattle.hm_isa.specs.declared.widths.NarrowRow.TheVariants as narrow
 use Rattle.hm_tokens.specs.Tokens.{Tok, word, number, mark}
-use Rattle.hm_text16_codes.specs.declared.operands.Kind.{Kind}
-use Rattle.hm_text16_codes.specs.declared.operands.Kind.TheVariants as kinds
-use Rattle.hm_text16_codes.specs.declared.operands.Operands.{Operands}
-use Rattle.hm_text16_codes.specs.Codes.{code_in, code_label, code_list, code_of, code_of_three, code_of_two, code_with_number, code_with_register}
 use Rattle.hm_text16_codes.specs.Names.{byte_names, hint_names, jump_names, logic_names, masking_names, plain_names, shift_names, swap_names}
 use Rattle.hm_text16_codes.specs.Names.{word_names, zero_names}
-use Rattle.hm_text16_rows.specs.Mnemonics.{block_first_word, byte_mnemonic, hint_mnemonic, jump_mnemonic, logic_mnemonic, masking_mnemonic, plain_mnemonic}
-use Rattle.hm_text16_rows.specs.Mnemonics.{shift_mnemonic, stack_sum_mnemonic, sum_mnemonic, swap_mnemonic, word_mnemonic, zero_mnemonic}
-use Rattle.hm_text_rows.specs.Mnemonics.{access_mnemonic, extend_mnemonic}
+use Rattle.hm_text16_codes.proofs.Unique.{begins, list_word, some_mask}
+use Rattle.hm_text16_rows.specs.Mnemonics.{block_first_word, byte_mnemonic, hint_mnemonic, jump_mnemonic, letters_above, logic_mnemonic, masking_mnemonic}
+use Rattle.hm_text16_rows.specs.Mnemonics.{plain_mnemonic, shift_mnemonic, stack_sum_mnemonic, sum_mnemonic, swap_mnemonic, word_mnemonic, zero_mnemonic}
+use Rattle.hm_text16_rows.specs.Rows.{tokens_of}
+use Rattle.hm_text_rows.specs.Mnemonics.{access_mnemonic, branch_mnemonic, extend_mnemonic}
 use Rattle.hm_text_rows.specs.Names.{access_names, block_masks, extend_names, named, sum_names}
-use Rattle.hm_text_rows.specs.Operands.{branch_condition_in}
-use Rattle.hm_text_rows.proofs.Words.{none_is}
-use Rattle.hm_text16_codes.specs.Operands.{read_operands}
-use Rattle.hm_textv_codes.specs.Codes as vectors
+use Rattle.hm_text_rows.specs.Operands.{branch_condition_in, first_word}
+use Rattle.hm_textv_rows.specs.Rows.{HasTokens}
 use Rattle.hm_text.proofs.Lines.{has_lane}
-use Rattle.hm_text.proofs.VectorNames.{begins_with_v, is_other, other_name_none, some_code, vector_named}
+use Rattle.hm_text.proofs.VectorNames.{begins_with_v, is_other, not_other, vector_named}
+
+below_is_false : (f : ℕ → Bool) (n b : ℕ) → agree_below f (λ k. false) n ≡ true → b < n → f b ≡ false
+below_is_false f n b e lt = agree_below_at f (λ k. false) n b e lt
 
 -- whether all tests of a list hold
 abbrev are_all : List Bool → Bool
 are_all [] = true
 are_all (b ∷ bs) = b && are_all bs
 
--- NO ROW OF ONE HALFWORD: a test for each look-up, 0 to 15 by place, that no name has the mnemonic,
+-- NO ROW OF ONE HALFWORD: a test for each look-up that no name has the mnemonic
 abbrev no_names : List ℕ → List Bool
 no_names s =
     is_none (named shift_mnemonic shift_names s)
@@ -48,7 +51,7 @@ no_names s =
     ∷ is_none (branch_condition_in s)
     ∷ []
 
--- and a test for each word beside them, 0 to 9
+-- and a test for each word beside them
 abbrev no_words : List ℕ → List Bool
 no_words s =
     not (bytes_eq s (codes "add")) ∷ not (bytes_eq s (codes "cmp")) ∷ not (bytes_eq s (codes "mov")) ∷ not (bytes_eq s (codes "bkpt"))
@@ -58,72 +61,22 @@ no_words s =
 abbrev pub is_not_narrow : List ℕ → Bool
 is_not_narrow s = are_all (no_names s) && are_all (no_words s)
 
--- so no code of theirs
-holds : (k : ℕ) (bs : List Bool) → are_all bs ≡ true → get_or bs k true ≡ true
-holds k [] e = refl
-holds zero (b ∷ bs) e = (and_parts b (are_all bs) e).0
-holds (suc k) (b ∷ bs) e = holds k bs (and_parts b (are_all bs) e).1
+-- a row of one halfword fails one of them
+list_fails : (name : ListName) → is_not_narrow (list_word name) ≡ false
+list_fails name = grind arith
 
--- no code, whatever a test tells
-abbrev no_number : Option ℕ
-no_number = None
+block_fails : (low m : ℕ) → low < 2 → m < 16 → 0 < m → is_not_narrow (codes "it" ++ letters_above low m) ≡ false
+block_fails low zero hl hm some = absurd (omega arith)
+block_fails zero (suc k) hl hm some = below_is_false (λ j. is_not_narrow (codes "it" ++ letters_above 0 (suc j))) 15 k refl (omega arith)
+block_fails (suc zero) (suc k) hl hm some = below_is_false (λ j. is_not_narrow (codes "it" ++ letters_above 1 (suc j))) 15 k refl (omega arith)
+block_fails (suc (suc low)) (suc k) hl hm some = absurd (omega arith)
 
-is_not : {b : Bool} → not b ≡ true → b ≡ false
-is_not {b = true} e = absurd (false≢true e)
-is_not {b = false} e = refl
-
-no_either : (b : Bool) → option_or (cond b no_number no_number) no_number ≡ no_number
-no_either true = refl
-no_either false = refl
-
-module _ (s : List ℕ) (o : Operands) (pc a : ℕ) (e : is_not_narrow s ≡ true) where
-  parts : (are_all (no_names s) ≡ true) × (are_all (no_words s) ≡ true)
-  parts = and_parts (are_all (no_names s)) (are_all (no_words s)) e
-
-  name : (k : ℕ) → get_or (no_names s) k true ≡ true
-  name k = holds k (no_names s) parts.0
-
-  word_ : (k : ℕ) → get_or (no_words s) k true ≡ true
-  word_ k = holds k (no_words s) parts.1
-
-  no_add : bytes_eq s (codes "add") ≡ false
-  no_add = is_not (word_ 0)
-
-  with_number : code_with_number s o ≡ None
-  with_number =
-      rw (none_is (name 0), none_is (name 1), no_add, none_is (name 2), none_is (name 3))
-      (no_either (o.second == 13))
-
-  with_register : code_with_register s o ≡ None
-  with_register = rw (none_is (name 1), none_is (name 4)) refl
-
-  two_none : (k : Kind) → code_of_two k s o ≡ None
-  two_none kinds.Number = rw (none_is (name 8), none_is (name 9)) refl
-  two_none kinds.Word =
-      rw (none_is (name 5), none_is (name 6), none_is (name 7))
-      (rw (is_not (word_ 1), no_add, is_not (word_ 2)) refl)
-  two_none kinds.Missing =
-      rw (none_is (name 10), none_is (name 11), none_is (name 12))
-      (rw (is_not (word_ 3), none_is (name 13)) refl)
-
-  label_none : code_label s o pc a ≡ None
-  label_none =
-      rw (is_not (word_ 8), none_is (name 14), none_is (name 15))
-      (rw (is_not (word_ 9)) refl)
-
-  three_none : (k : Kind) → code_of_three k s o pc a ≡ None
-  three_none kinds.Number = with_number
-  three_none kinds.Word = with_register
-  three_none kinds.Missing = rw label_none (two_none o.second_kind)
-
-  list_none : code_list s o ≡ None
-  list_none =
-      rw (is_not (word_ 4), is_not (word_ 5))
-      (rw (is_not (word_ 6), is_not (word_ 7)) refl)
-
-  narrow_code_none : code_of s o pc a ≡ None
-  unfolding code_of
-  narrow_code_none = rw list_none (three_none o.third_kind)
+narrow_fails : (r : NarrowRow) (t : Tok) → is_not_narrow (first_word (tokens_of r t)) ≡ false
+narrow_fails (narrow.S20 i) t = ap is_not_narrow (begins i.name i.x.value i.n.value i.list.value) ∙ list_fails i.name
+narrow_fails (narrow.S21 i) t =
+    block_fails (i.c.value % 2) i.mask.value (omega arith) i.mask.in_range (some_mask i.c.value i.mask.value i.row)
+narrow_fails (narrow.S25 (s25.Conditional i)) t = below_is_false (λ c. is_not_narrow (branch_mnemonic c)) 14 i.c.value refl i.c.in_range
+narrow_fails r t = grind arith
 
 -- ALL
 abbrev pub is_wide_name : List ℕ → List Tok → Bool
@@ -136,12 +89,13 @@ is_wide_line (word w ∷ ts) = is_wide_name w ts
 is_wide_line (number n ∷ ts) = false
 is_wide_line (mark c ∷ ts) = false
 
-pub narrow_asks_none : (ts : List Tok) (pc a : ℕ) → is_wide_line ts ≡ true → code_in ts pc a ≡ None
-narrow_asks_none [] pc a e = absurd (false≢true e)
-narrow_asks_none (word w ∷ ts) pc a e =
-    narrow_code_none w (read_operands ts) pc a (and_parts (is_not_narrow w) (not (begins_with_v w) || (is_other w || has_lane ts)) e).0
-narrow_asks_none (number n ∷ ts) pc a e = absurd (false≢true e)
-narrow_asks_none (mark c ∷ ts) pc a e = absurd (false≢true e)
+pub no_narrow : (r : NarrowRow) (t : Tok) (ts : List Tok) → tokens_of r t ≡ ts → is_wide_line ts ≡ true → ⊥
+no_narrow r t [] is e = false≢true e
+no_narrow r t (word w ∷ ts) is e =
+    let p = and_parts (is_not_narrow w) (not (begins_with_v w) || (is_other w || has_lane ts)) e in
+    false≢true (sym (narrow_fails r t) ∙ ap (λ (x : List Tok). is_not_narrow (first_word x)) is ∙ p.0)
+no_narrow r t (number n ∷ ts) is e = false≢true e
+no_narrow r t (mark c ∷ ts) is e = false≢true e
 
 or_not : (v b : Bool) → (not v || b) ≡ true → v ≡ true → b ≡ true
 or_not true b e v = e
@@ -152,10 +106,10 @@ or_parts true b e = inl refl
 or_parts false b e = inr e
 
 -- a vector row with such a mnemonic has a lane
-pub vector_with_lane : (w : List ℕ) (ts us : List Tok) (x : ℕ) → is_wide_name w ts ≡ true → vectors.code_in (word w ∷ us) ≡ Some x → has_lane ts ≡ true
-vector_with_lane w ts us x e asks =
+pub vector_with_lane : (w : List ℕ) (ts us : List Tok) (v : Vector) → is_wide_name w ts ≡ true → HasTokens v (word w ∷ us) → has_lane ts ≡ true
+vector_with_lane w ts us v e has =
     let p = and_parts (is_not_narrow w) (not (begins_with_v w) || (is_other w || has_lane ts)) e in
-    elim (or_parts (is_other w) (has_lane ts) (or_not (begins_with_v w) (is_other w || has_lane ts) p.1 (vector_named (word w ∷ us) x asks))) [
-      | inl is ↦ absurd (some_code (vectors.code_in (word w ∷ us)) x (other_name_none w us is) asks)
+    elim (or_parts (is_other w) (has_lane ts) (or_not (begins_with_v w) (is_other w || has_lane ts) p.1 (vector_named v (word w ∷ us) has))) [
+      | inl is ↦ absurd (not_other v w us has is)
       | inr lane ↦ lane
     ]

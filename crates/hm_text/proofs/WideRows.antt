@@ -9,6 +9,7 @@ use Rattle.hm_isa.specs.declared.data.DataName.TheVariants as data_
 use Rattle.hm_isa.specs.declared.system.BarrierName.{BarrierName}
 use Rattle.hm_isa.specs.declared.system.T19.TheVariants as t19
 use Rattle.hm_isa.specs.declared.wide.WideListName.{WideListName}
+use Rattle.hm_isa.specs.declared.widths.ByWidth.TheVariants as by
 use Rattle.hm_isa.specs.declared.widths.WideRow.{WideRow}
 use Rattle.hm_isa.specs.declared.widths.WideRow.TheVariants.{T1, T2, T9, T14, T19}
 use Rattle.hm_isa.specs.Rules.{is_wide_list}
@@ -25,7 +26,7 @@ use Rattle.hm_text32_rows.specs.Rows.{and_shifted, constant_tokens, data_tokens,
 use Rattle.hm_text32_rows.specs.Rows.{single_tokens, tokens_of}
 use Rattle.hm_text32_rows.specs.Mnemonics.{barrier_mnemonic, carry_mnemonic, data_mnemonic, move_mnemonic, test_mnemonic, turn_mnemonic, wide}
 use Rattle.hm_text32_rows.specs.Mnemonics.{wide_list_mnemonic, wide_list_suffix}
-use Rattle.hm_text32.specs.Texts.{AreTokens}
+use Rattle.hm_text.specs.Tables.{AreOfRow}
 use Rattle.hm_text.proofs.Formed.{Formed}
 use Rattle.hm_text.proofs.FormedNarrow.{taken_braces}
 use Rattle.hm_text.proofs.VectorNames.{begins_with_v}
@@ -101,7 +102,7 @@ other_named (T19 (t19.Barrier i)) ts e =
     subst (λ (x : List Tok). is_wide_line x ≡ true) (some_is (word (barrier_mnemonic i.name) ∷ []) ts a.1) (line {ts = []} (free_barrier i.name)).is
 other_named i ts e = absurd cc
 
-pub wide_named : (i : WideRow) (t : Tok) (ts : List Tok) → AreTokens i t ts → is_wide_line ts ≡ true
+pub wide_named : (i : WideRow) (t : Tok) (ts : List Tok) → AreOfRow (by.Wide i) t ts → is_wide_line ts ≡ true
 wide_named i t ts (inl is) = subst (λ (x : List Tok). is_wide_line x ≡ true) is (printed_named i t).is
 wide_named i t ts (inr is) = other_named i ts is
 

@@ -1,3 +1,4 @@
+pub mod Labels
 pub mod Tables
 pub mod Texts
 pub mod Refusals

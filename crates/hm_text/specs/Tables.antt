@@ -1,5 +1,5 @@
 -- The texts of all tables together: which row has a text, and what its label names.
-use Rattle.std.specs.Prelude.{◌⊎◌, ℕ, ◌*◌, Bool, false, List, Option, None, length}
+use Rattle.std.specs.Prelude.{◌≡◌, ◌⊎◌, ℕ, ◌*◌, Bool, false, List, Option, Some, None, length}
 use Rattle.hm_isa.specs.declared.Instr.{Instr}
 use Rattle.hm_isa.specs.declared.Instr.TheVariants.{Scalar, Branch, Vector}
 use Rattle.hm_isa.specs.declared.widths.ByWidth.{ByWidth}
@@ -9,46 +9,15 @@ use Rattle.hm_isa.specs.Widths.{by_width}
 use Rattle.hm_tokens.specs.Lines.{IsLineOf, printed}
 use Rattle.hm_tokens.specs.Ranges.{normal}
 use Rattle.hm_tokens.specs.Tokens.{Tok}
-use Rattle.hm_text_rows.specs.Labels.{Reaches}
-use Rattle.hm_text_labels.specs.Texts.{label_where}
+use Rattle.hm_text_rows.specs.Labels.{IsLabel, Reaches, printed_with}
 use Rattle.hm_text16_rows.specs.Rows as narrow_rows
 use Rattle.hm_text16_rows.specs.Targets as narrow_targets
-use Rattle.hm_text16.specs.Texts as narrow
 use Rattle.hm_text32_rows.specs.Rows as wide_rows
 use Rattle.hm_text32_rows.specs.Targets as wide_targets
-use Rattle.hm_text32.specs.Texts as wide
 use Rattle.hm_textv_rows.specs.Rows as vectors
+use Rattle.hm_text.specs.Labels.{label_where}
 
--- TABLES, of which each has its own rows
--- a text has tokens that are a row's, where t stands for its label; its lists may have ranges
-pub record IsTextIn (HasTokens : Instr → Tok → List Tok → Type 0) (text : List ℕ) (i : Instr) (t : Tok) : Type 0 where
-  pub tokens : List Tok
-  pub line : IsLineOf text tokens
-  pub has : HasTokens i t (normal tokens)
-
--- those of a row of one halfword
-abbrev pub IsNarrowText : List ℕ → Instr → Tok → Type 0
-IsNarrowText text i t = IsTextIn narrow.HasTokens text i t
-
--- those of a row of two halfwords that is no vector row
-abbrev pub IsWideText : List ℕ → Instr → Tok → Type 0
-IsWideText text i t = IsTextIn wide.HasTokens text i t
-
--- those of a vector row, which has no label
-abbrev pub IsVectorText : List ℕ → Instr → Type 0
-IsVectorText text (Scalar i) = ⊥
-IsVectorText text (Branch i) = ⊥
-IsVectorText text (Vector v) = vectors.IsTextOf text v
-
--- those of a row of two halfwords
-abbrev pub IsLongText : List ℕ → Instr → Tok → Type 0
-IsLongText text i t = IsWideText text i t ⊎ IsVectorText text i
-
--- ALL OF THEM
--- a text has the tokens of a row, where t stands for its label; where it has none, t is any label
-abbrev pub HasText : Instr → Tok → List ℕ → Type 0
-HasText i t text = IsNarrowText text i t ⊎ IsLongText text i t
-
+-- LABELS
 -- whether the last operand of a row is a label, by its table
 abbrev pub has_label_by : ByWidth → Bool
 has_label_by (by.Narrow r) = narrow_rows.has_label r
@@ -73,6 +42,45 @@ target_by (by.Vector v) pc = None
 abbrev pub target : Instr → ℕ → Option ℕ
 target i pc = target_by (by_width i) pc
 
+-- TOKENS of rows of one halfword, and of two that are no vector rows
+-- tokens are those of a row as it is printed, where t stands for its label, or those of its other text, by its table
+abbrev pub AreOfRow : ByWidth → Tok → List Tok → Type 0
+AreOfRow (by.Narrow r) t ts = narrow_rows.tokens_of r t ≡ ts
+AreOfRow (by.Wide r) t ts = (wide_rows.tokens_of r t ≡ ts) ⊎ (wide_rows.other_tokens r ≡ Some ts)
+AreOfRow (by.Vector v) t ts = ⊥
+
+-- tokens are those of a row, with some label behind them where it has one, by its table
+abbrev pub AreRowTokens : ByWidth → List Tok → Type 0
+AreRowTokens w ts = (t : Tok) × IsLabel t × AreOfRow w t ts
+
+-- tokens with single registers are a row's, where t stands for its label; where it has none, t is any label
+pub record HasTokens (i : Instr) (t : Tok) (ts : List Tok) : Type 0 where
+  pub label : IsLabel t
+  pub tokens : AreOfRow (by_width i) t ts
+
+-- tokens with single registers are a row's that stands at pc, with a label that names the address a
+pub record IsRowOf (ts : List Tok) (pc : ℕ) (a : ℕ) (i : Instr) : Type 0 where
+  pub label : Tok
+  pub has : HasTokens i label ts
+  pub reaches : Reaches (target i pc) a
+
+-- TEXTS
+-- a text has tokens that are such a row's, where t stands for its label; its lists may have ranges
+pub record IsTokenText (text : List ℕ) (i : Instr) (t : Tok) : Type 0 where
+  pub tokens : List Tok
+  pub line : IsLineOf text tokens
+  pub has : HasTokens i t (normal tokens)
+
+-- a text has the tokens of a vector row, which has no label
+abbrev pub IsVectorText : List ℕ → Instr → Type 0
+IsVectorText text (Scalar i) = ⊥
+IsVectorText text (Branch i) = ⊥
+IsVectorText text (Vector v) = vectors.IsTextOf text v
+
+-- a text has the tokens of a row, where t stands for its label; where it has none, t is any label
+abbrev pub HasText : Instr → Tok → List ℕ → Type 0
+HasText i t text = IsTokenText text i t ⊎ IsVectorText text i
+
 -- a row has the text and stands at pc, with a label that names the address a
 pub record IsRowAt (text : List ℕ) (pc : ℕ) (a : ℕ) (i : Instr) : Type 0 where
   pub label : Tok
@@ -88,10 +96,10 @@ abbrev pub width_of : Instr → ℕ
 width_of i = 2 * length (halfwords i)
 
 -- PRINTED
--- the text of a row that stands at pc, by its table
+-- the text of a row that stands at pc, by its table: of one with a label, with the address that this names
 abbrev pub printed_by : ByWidth → ℕ → List ℕ
-printed_by (by.Narrow r) pc = narrow.text_of r (narrow_targets.target r pc)
-printed_by (by.Wide r) pc = wide.text_of r (wide_targets.target r pc)
+printed_by (by.Narrow r) pc = printed_with (narrow_rows.row_tokens r) (narrow_targets.target r pc)
+printed_by (by.Wide r) pc = printed_with (wide_rows.row_tokens r) (wide_targets.target r pc)
 printed_by (by.Vector v) pc = printed (vectors.tokens_of v)
 
 -- the text of a row that stands at pc

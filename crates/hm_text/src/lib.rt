@@ -11,21 +11,24 @@ ghost use Rattle.hm_text.specs.Tables.{printed_text, width_of};
 ghost use Rattle.hm_text.specs.Texts.{HasWidth, IsOnlyShape, IsShape, IsTextOf};
 ghost use Rattle.hm_tokens.specs.Tokens.{tok};
 
+mod labels;
 mod laws;
 mod named;
+mod reading;
 mod tables;
+mod texts;
 
 use arrayvec::ArrayString;
 use hm_isa::{ByWidth, Instr, by_width};
 pub use hm_line::{AsmKind, Labels, TextErr};
 use hm_line::{Form, check_form, column, last_column};
-use hm_text16::print16;
-use hm_text32::print32;
 use hm_textv::print_v;
 use hm_tokens::skip;
 pub use laws::text_law;
 use named::address_in;
-use tables::{Shape, row_at, row_shape};
+use reading::Shape;
+use tables::{row_at, row_shape};
+use texts::{print_narrow, print_wide};
 
 /// The text of an instruction that stands at `pc`: the first word, a space, and the operands with commas between them, numbers in
 /// decimal, and for a label the address that it names as `0x` and eight digits. `parse_instr` gives the instruction again, at the
@@ -37,8 +40,8 @@ pub fn print_instr(i: &Instr, pc: u32) -> ArrayString<96>
     ensures width { HasWidth result.bytes (width_of i.now) }
 {
     match by_width(i) {
-        ByWidth::Narrow(row) => print16(&row, pc),
-        ByWidth::Wide(row) => print32(&row, pc),
+        ByWidth::Narrow(row) => print_narrow(&row, pc),
+        ByWidth::Wide(row) => print_wide(&row, pc),
         ByWidth::Vector(row) => print_v(&row),
     }
 }

@@ -1,8 +1,7 @@
 pub mod Words
 pub mod Forms
 pub mod Asked
-pub mod OnRegisters
-pub mod OnMemory
-pub mod OnLists
-pub mod OnLabels
+pub mod Lists
+pub mod Fields
 pub mod Rows
+pub mod Unique

@@ -21,13 +21,13 @@ kind_of (word w) = kinds.Word
 kind_of (number n) = kinds.Number
 kind_of (mark c) = kinds.Missing
 
--- what stands behind a mnemonic, as numbers: three operands, what the second and the third are, and the registers in braces
+-- what stands behind the mnemonic of tokens, as numbers: three operands, what the second and the third are, and the registers in braces
 abbrev pub read_operands : List Tok → Operands
 read_operands ts = record {
-  first = value (operand 0 ts);
-  second = value (operand 1 ts);
-  third = value (operand 2 ts);
-  second_kind = kind_of (operand 1 ts);
-  third_kind = kind_of (operand 2 ts);
+  first = value (operand 1 ts);
+  second = value (operand 2 ts);
+  third = value (operand 3 ts);
+  second_kind = kind_of (operand 2 ts);
+  third_kind = kind_of (operand 3 ts);
   registers = bits_of (braced ts);
 }

@@ -63,16 +63,16 @@ fn kind_of(token: Token<'_>) -> Kind
     }
 }
 
-/// What stands behind a mnemonic.
+/// What stands behind the mnemonic of tokens, which is their first word.
 pub fn read_operands(tokens: &[Token<'_>]) -> Operands
     ensures { result ≡ read_operands (map tok tokens.now) }
 {
     Operands {
-        first: value(operand(tokens, 0)),
-        second: value(operand(tokens, 1)),
-        third: value(operand(tokens, 2)),
-        second_kind: kind_of(operand(tokens, 1)),
-        third_kind: kind_of(operand(tokens, 2)),
+        first: value(operand(tokens, 1)),
+        second: value(operand(tokens, 2)),
+        third: value(operand(tokens, 3)),
+        second_kind: kind_of(operand(tokens, 2)),
+        third_kind: kind_of(operand(tokens, 3)),
         registers: braced_bits(tokens),
     }
 }

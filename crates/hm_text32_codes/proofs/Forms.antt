@@ -1,60 +1,45 @@
--- The shapes of rows' texts: what their operands give, and that they are printed and read back.
-use Rattle.std.proofs.Common.{◌≡◌, ℕ, ◌^◌, ◌<◌, Bool, true, false, eqb, List, [], ◌∷◌, ◌++◌, Some, refl, subst, inl, inr, ◌∙◌, arith}
+-- The shapes of rows' texts: their mnemonics, what their operands are as numbers, and that they are printed and read back.
+use Rattle.std.proofs.Common.{◌≡◌, ℕ, ◌^◌, ◌<◌, ◌≤◌, Bool, true, false, eqb, List, [], ◌∷◌, ◌++◌, refl, subst, ap, inl, inr, ◌∙◌, arith}
 use Rattle.std.proofs.lemmas.List.{append-nil}
 use Rattle.std.proofs.lemmas.Bool.{agree_below_at, cases_Bool, eqb-true}
 use Rattle.std.specs.Prelude.{cond, codes, min, nat_eq}
+use Rattle.hm_tokens.proofs.Again.{are_apart}
+use Rattle.hm_tokens.proofs.Ranges.{has_no_ranges, normal_same}
+use Rattle.hm_tokens.specs.Ranges.{normal}
 use Rattle.hm_tokens.specs.Names.{condition_name, register_name, vector_name}
 use Rattle.hm_tokens.specs.Tokens.{Tok, word, comma}
 use Rattle.hm_text32_codes.specs.declared.operands.Operands.{Operands}
-use Rattle.hm_text32_codes.specs.Operands.{word_value}
-use Rattle.hm_text_rows.specs.Operands.{is_vector_name, size_of}
-use Rattle.hm_text32_codes.specs.Codes.{code_of, plain_code_in}
+use Rattle.hm_text32_codes.specs.Asked.{given_all}
+use Rattle.hm_text32_codes.specs.Operands.{mnemonic_in, operands_in, read_operands, word_value}
+use Rattle.hm_text_rows.specs.Operands.{bits_of, braced, is_vector_name, size_of}
 use Rattle.hm_text32_rows.specs.Mnemonics.{shift_mnemonic, wide}
 use Rattle.hm_text_rows.specs.Mnemonics.{element_suffix}
 use Rattle.hm_text_rows.specs.Shapes.{and_constant, and_operand, and_shift, constant, four, one, three, two}
 use Rattle.hm_text_rows.proofs.Words.{◌▹◌, below_holds, below_is, cut, is_name, is_mnemonic, is_suffix, word_q, word_r}
-use Rattle.hm_text_rows.proofs.Printed.{IsPrinted, is_printed, short_comma, short_hash, short_number, short_word}
+use Rattle.hm_text_rows.proofs.Printed.{AreShort, IsPrinted, IsShort, is_printed_as, room, short_comma, short_hash, short_number, short_word}
 
--- tokens with this mnemonic and these operands
+-- tokens with this mnemonic and these operands, which are printed and read back
 pub record Reads (ts : List Tok) (s : List ℕ) (o : Operands) : Type 0 where
-  pub asks : plain_code_in ts ≡ code_of s o
+  pub mnemonic : mnemonic_in ts ≡ s
+  pub gives : operands_in ts ≡ o
   pub prints : IsPrinted ts
-
--- a text asks for the code w, and is printed and read back
-pub record Answers (w : ℕ) (ts : List Tok) : Type 0 where
-  pub asks : plain_code_in ts ≡ Some w
-  pub prints : IsPrinted ts
-
-pub answers_of : (ts : List Tok) (w : ℕ) (s : List ℕ) (o : Operands) → Reads ts s o → code_of s o ≡ Some w → Answers w ts
-answers_of ts w s o reads e = record { asks = reads.asks ∙ e; prints = reads.prints }
 
 -- whether the second and the third are numbers, whether there are operands, the size, whether the first is a vector register
 abbrev pub given_with : Bool → Bool → Bool → ℕ → Bool → ℕ → ℕ → ℕ → ℕ → ℕ → Operands
-given_with second_is_number third_is_number bare z is_vector a b c e g = record {
-  is_bare = bare;
-  size = z;
-  is_vector = is_vector;
-  second_is_number = second_is_number;
-  third_is_number = third_is_number;
-  first = a;
-  second = b;
-  third = c;
-  fourth = e;
-  fifth = g;
-}
+given_with second third bare z vector a b c e g = given_all bare false z vector second third a b c e g 1 1 0
 
 -- with no number for the second and third, with one for the third, for the second, and for both
-abbrev pub given : Bool → ℕ → Bool → ℕ → ℕ → ℕ → ℕ → ℕ → Operands
-given = given_with false false
+abbrev pub words_as : Bool → ℕ → Bool → ℕ → ℕ → ℕ → ℕ → ℕ → Operands
+words_as = given_with false false
 
-abbrev pub numbered : Bool → ℕ → Bool → ℕ → ℕ → ℕ → ℕ → ℕ → Operands
-numbered = given_with false true
+abbrev pub numbered_as : Bool → ℕ → Bool → ℕ → ℕ → ℕ → ℕ → ℕ → Operands
+numbered_as = given_with false true
 
-abbrev pub second_numbered : Bool → ℕ → Bool → ℕ → ℕ → ℕ → ℕ → ℕ → Operands
-second_numbered = given_with true false
+abbrev pub second_numbered_as : Bool → ℕ → Bool → ℕ → ℕ → ℕ → ℕ → ℕ → Operands
+second_numbered_as = given_with true false
 
-abbrev pub both_numbered : Bool → ℕ → Bool → ℕ → ℕ → ℕ → ℕ → ℕ → Operands
-both_numbered = given_with true true
+abbrev pub both_numbered_as : Bool → ℕ → Bool → ℕ → ℕ → ℕ → ℕ → ℕ → Operands
+both_numbered_as = given_with true true
 
 -- SUFFIXES
 pub record Suffix (suffix : List ℕ) (z : ℕ) : Type 0 where
@@ -86,6 +71,9 @@ pub record Operand (w : List ℕ) (n : ℕ) (b : Bool) : Type 0 where
   pub value : word_value w ≡ n
   pub vector : is_vector_name w ≡ b
   pub is : is_name w ≡ true
+
+pub short : {w : List ℕ} {n : ℕ} {b : Bool} → Operand w n b → IsShort (word w)
+short {w} o = short_word w o.is
 
 pub a_register : (n : ℕ) → n < 16 → Operand (register_name n) n false
 unfolding word_value is_vector_name
@@ -131,83 +119,88 @@ a_kind ty lt = record {
 }
 
 -- SHAPES
+-- the mnemonic of tokens, the first of which is this with a suffix
+pub the_mnemonic : (s f : List ℕ) (ts : List Tok) → is_mnemonic s ≡ true → is_suffix f ≡ true → mnemonic_in (word (s ++ f) ∷ ts) ≡ s
+the_mnemonic s f ts mnemonic suffix = ap (λ (p : List ℕ × List ℕ). p.0) (cut s f mnemonic suffix)
+
+-- tokens behind a mnemonic and a suffix: where they are short, and what they give
+pub reads_as : (s f : List ℕ) (ts : List Tok) (o : Operands) → is_mnemonic s ≡ true → is_suffix f ≡ true → AreShort ts → are_apart ts ≡ true → room ts ≤ 78
+    → normal (word (s ++ f) ∷ ts) ≡ word (s ++ f) ∷ ts → read_operands f ts ≡ o → Reads (word (s ++ f) ∷ ts) s o
+reads_as s f ts o mnemonic suffix short apart le same gives = record {
+  mnemonic = the_mnemonic s f ts mnemonic suffix;
+  gives = ap (λ (p : List ℕ × List ℕ). read_operands p.1 ts) (cut s f mnemonic suffix) ∙ gives;
+  prints = is_printed_as s f ts mnemonic suffix short apart le same;
+}
+
+-- and have no minus sign
+pub reads : (s f : List ℕ) (ts : List Tok) (o : Operands) → is_mnemonic s ≡ true → is_suffix f ≡ true → AreShort ts → are_apart ts ≡ true → room ts ≤ 78
+    → has_no_ranges ts ≡ true → read_operands f ts ≡ o → Reads (word (s ++ f) ∷ ts) s o
+reads s f ts o mnemonic suffix short apart le none gives =
+    reads_as s f ts o mnemonic suffix short apart le (normal_same (word (s ++ f) ∷ ts) none) gives
+
 pub min_small : (n : ℕ) → n < 2 ^ 32 → min n 0xffff_ffff ≡ n
 min_small n lt = omega arith
 
-pub reads_none : (s f : List ℕ) (z : ℕ) → is_mnemonic s ≡ true → Suffix f z → Reads (word (s ++ f) ∷ []) s (given true z false 0 0 0 0 0)
-reads_none s f z mnemonic g = record {
-  asks = rw (cut s f mnemonic g.is, g.size) refl;
-  prints = is_printed s f [] mnemonic g.is tt refl (omega arith) refl;
-}
+pub reads_none : (s f : List ℕ) (z : ℕ) → is_mnemonic s ≡ true → Suffix f z → Reads (word (s ++ f) ∷ []) s (words_as true z false 0 0 0 0 0)
+unfolding bits_of braced
+reads_none s f z mnemonic g = reads s f _ _ mnemonic g.is tt refl (omega arith) refl (rw (g.size) refl)
 
 pub reads_constant : (s f : List ℕ) (z x : ℕ) → is_mnemonic s ≡ true → Suffix f z → x < 2 ^ 32
-    → Reads (word (s ++ f) ∷ constant x) s (given false z false x 0 0 0 0)
-reads_constant s f z x mnemonic g hx = record {
-  asks = rw (cut s f mnemonic g.is, g.size, min_small x hx) refl;
-  prints = is_printed s f _ mnemonic g.is (short_hash ▹ short_number x hx ▹ tt) refl (omega arith) refl;
-}
+    → Reads (word (s ++ f) ∷ constant x) s (words_as false z false x 0 0 0 0)
+unfolding bits_of braced
+reads_constant s f z x mnemonic g hx =
+    reads s f _ _ mnemonic g.is (short_hash ▹ short_number x hx ▹ tt) refl (omega arith) refl (rw (g.size, min_small x hx) refl)
 
 pub reads_two : (s f w x : List ℕ) (b c : Bool) (z m n : ℕ) → is_mnemonic s ≡ true → Suffix f z → Operand w m b → Operand x n c
-    → Reads (two (s ++ f) (word w) (word x)) s (given false z b m n 0 0 0)
-reads_two s f w x b c z m n mnemonic g p o = record {
-  asks = rw (cut s f mnemonic g.is, g.size, p.vector, p.value, o.value) refl;
-  prints = is_printed s f _ mnemonic g.is (short_word w p.is ▹ short_comma ▹ short_word x o.is ▹ tt) refl (omega arith) refl;
-}
+    → Reads (two (s ++ f) (word w) (word x)) s (words_as false z b m n 0 0 0)
+unfolding bits_of braced
+reads_two s f w x b c z m n mnemonic g p o =
+    reads s f _ _ mnemonic g.is (short p ▹ short_comma ▹ short o ▹ tt) refl (omega arith) refl (rw (g.size, p.vector, p.value, o.value) refl)
 
 pub reads_three : (s f w x y : List ℕ) (b c e : Bool) (z m n l : ℕ) → is_mnemonic s ≡ true → Suffix f z → Operand w m b → Operand x n c → Operand y l e
-    → Reads (three (s ++ f) (word w) (word x) (word y)) s (given false z b m n l 0 0)
-reads_three s f w x y b c e z m n l mnemonic g p o t = record {
-  asks = rw (cut s f mnemonic g.is, g.size, p.vector, p.value, o.value, t.value) refl;
-  prints = is_printed s f _ mnemonic g.is (short_word w p.is ▹ short_comma ▹ short_word x o.is ▹ short_comma ▹ short_word y t.is ▹ tt) refl (omega arith)
-      refl;
-}
+    → Reads (three (s ++ f) (word w) (word x) (word y)) s (words_as false z b m n l 0 0)
+unfolding bits_of braced
+reads_three s f w x y b c e z m n l mnemonic g p o t =
+    reads s f _ _ mnemonic g.is (short p ▹ short_comma ▹ short o ▹ short_comma ▹ short t ▹ tt) refl (omega arith) refl
+    (rw (g.size, p.vector, p.value, o.value, t.value) refl)
 
 pub reads_four : (s f w x y v : List ℕ) (b c e h : Bool) (z m n l k : ℕ) → is_mnemonic s ≡ true → Suffix f z → Operand w m b → Operand x n c → Operand y l e
     → Operand v k h
-    → Reads (four (s ++ f) (word w) (word x) (word y) (word v)) s (given false z b m n l k 0)
-reads_four s f w x y v b c e h z m n l k mnemonic g p o t i = record {
-  asks = rw (cut s f mnemonic g.is, g.size, p.vector, p.value, o.value, t.value, i.value) refl;
-  prints =
-      is_printed s f _ mnemonic g.is
-      (short_word w p.is ▹ short_comma ▹ short_word x o.is ▹ short_comma ▹ short_word y t.is ▹ short_comma ▹ short_word v i.is ▹ tt) refl (omega arith)
-      refl;
-}
+    → Reads (four (s ++ f) (word w) (word x) (word y) (word v)) s (words_as false z b m n l k 0)
+unfolding bits_of braced
+reads_four s f w x y v b c e h z m n l k mnemonic g p o t i =
+    reads s f _ _ mnemonic g.is (short p ▹ short_comma ▹ short o ▹ short_comma ▹ short t ▹ short_comma ▹ short i ▹ tt) refl (omega arith) refl
+    (rw (g.size, p.vector, p.value, o.value, t.value, i.value) refl)
 
 pub reads_one_constant : (s f w : List ℕ) (b : Bool) (z m x : ℕ) → is_mnemonic s ≡ true → Suffix f z → Operand w m b → x < 2 ^ 32
-    → Reads (and_constant (one (s ++ f) (word w)) x) s (second_numbered false z b m x 0 0 0)
-reads_one_constant s f w b z m x mnemonic g p hx = record {
-  asks = rw (cut s f mnemonic g.is, g.size, p.vector, p.value, min_small x hx) refl;
-  prints = is_printed s f _ mnemonic g.is (short_word w p.is ▹ short_comma ▹ short_hash ▹ short_number x hx ▹ tt) refl (omega arith) refl;
-}
+    → Reads (and_constant (one (s ++ f) (word w)) x) s (second_numbered_as false z b m x 0 0 0)
+unfolding bits_of braced
+reads_one_constant s f w b z m x mnemonic g p hx =
+    reads s f _ _ mnemonic g.is (short p ▹ short_comma ▹ short_hash ▹ short_number x hx ▹ tt) refl (omega arith) refl
+    (rw (g.size, p.vector, p.value, min_small x hx) refl)
 
 pub reads_two_constant : (s f w x : List ℕ) (b c : Bool) (z m n k : ℕ) → is_mnemonic s ≡ true → Suffix f z → Operand w m b → Operand x n c → k < 2 ^ 32
-    → Reads (and_constant (two (s ++ f) (word w) (word x)) k) s (numbered false z b m n k 0 0)
-reads_two_constant s f w x b c z m n k mnemonic g p o hk = record {
-  asks = rw (cut s f mnemonic g.is, g.size, p.vector, p.value, o.value, min_small k hk) refl;
-  prints =
-      is_printed s f _ mnemonic g.is (short_word w p.is ▹ short_comma ▹ short_word x o.is ▹ short_comma ▹ short_hash ▹ short_number k hk ▹ tt) refl
-      (omega arith) refl;
-}
+    → Reads (and_constant (two (s ++ f) (word w) (word x)) k) s (numbered_as false z b m n k 0 0)
+unfolding bits_of braced
+reads_two_constant s f w x b c z m n k mnemonic g p o hk =
+    reads s f _ _ mnemonic g.is (short p ▹ short_comma ▹ short o ▹ short_comma ▹ short_hash ▹ short_number k hk ▹ tt) refl (omega arith) refl
+    (rw (g.size, p.vector, p.value, o.value, min_small k hk) refl)
 
 pub reads_one_constants : (s f w : List ℕ) (b : Bool) (z m x y : ℕ) → is_mnemonic s ≡ true → Suffix f z → Operand w m b → x < 2 ^ 32 → y < 2 ^ 32
-    → Reads (and_constant (and_constant (one (s ++ f) (word w)) x) y) s (both_numbered false z b m x y 0 0)
-reads_one_constants s f w b z m x y mnemonic g p hx hy = record {
-  asks = rw (cut s f mnemonic g.is, g.size, p.vector, p.value, min_small x hx, min_small y hy) refl;
-  prints =
-      is_printed s f _ mnemonic g.is
-      (short_word w p.is ▹ short_comma ▹ short_hash ▹ short_number x hx ▹ short_comma ▹ short_hash ▹ short_number y hy ▹ tt) refl (omega arith) refl;
-}
+    → Reads (and_constant (and_constant (one (s ++ f) (word w)) x) y) s (both_numbered_as false z b m x y 0 0)
+unfolding bits_of braced
+reads_one_constants s f w b z m x y mnemonic g p hx hy =
+    reads s f _ _ mnemonic g.is (short p ▹ short_comma ▹ short_hash ▹ short_number x hx ▹ short_comma ▹ short_hash ▹ short_number y hy ▹ tt) refl
+    (omega arith) refl (rw (g.size, p.vector, p.value, min_small x hx, min_small y hy) refl)
 
 pub reads_two_constants : (s f w x : List ℕ) (b c : Bool) (z m n k l : ℕ) → is_mnemonic s ≡ true → Suffix f z → Operand w m b → Operand x n c → k < 2 ^ 32
     → l < 2 ^ 32
-    → Reads (and_constant (and_constant (two (s ++ f) (word w) (word x)) k) l) s (numbered false z b m n k l 0)
-reads_two_constants s f w x b c z m n k l mnemonic g p o hk hl = record {
-  asks = rw (cut s f mnemonic g.is, g.size, p.vector, p.value, o.value, min_small k hk, min_small l hl) refl;
-  prints =
-      is_printed s f _ mnemonic g.is
-      (short_word w p.is ▹ short_comma ▹ short_word x o.is ▹ short_comma ▹ short_hash ▹ short_number k hk ▹ short_comma ▹ short_hash
-      ▹ short_number l hl ▹ tt) refl (omega arith) refl;
-}
+    → Reads (and_constant (and_constant (two (s ++ f) (word w) (word x)) k) l) s (numbered_as false z b m n k l 0)
+unfolding bits_of braced
+reads_two_constants s f w x b c z m n k l mnemonic g p o hk hl =
+    reads s f _ _ mnemonic g.is
+    (short p ▹ short_comma ▹ short o ▹ short_comma ▹ short_hash ▹ short_number k hk ▹ short_comma ▹ short_hash ▹ short_number l hl ▹ tt) refl (omega arith)
+    refl (rw (g.size, p.vector, p.value, o.value, min_small k hk, min_small l hl) refl)
 
 -- a shift by 0 is not written
 abbrev pub kind_given : ℕ → ℕ → ℕ
@@ -216,19 +209,16 @@ kind_given v k = cond (nat_eq k 0) 0 v
 reads_two_shifted : (s f w x kind : List ℕ) (b c h : Bool) (z m n v k : ℕ) → is_mnemonic s ≡ true → Suffix f z → Operand w m b → Operand x n c
     → Operand kind v h
     → k < 2 ^ 32
-    → Reads (two (s ++ f) (word w) (word x) ++ comma ∷ word kind ∷ constant k) s (given false z b m n v k 0)
-reads_two_shifted s f w x kind b c h z m n v k mnemonic g p o t hk = record {
-  asks = rw (cut s f mnemonic g.is, g.size, p.vector, p.value, o.value, t.value, min_small k hk) refl;
-  prints =
-      is_printed s f _ mnemonic g.is
-      (short_word w p.is ▹ short_comma ▹ short_word x o.is ▹ short_comma ▹ short_word kind t.is ▹ short_hash ▹ short_number k hk ▹ tt) refl (omega arith)
-      refl;
-}
+    → Reads (two (s ++ f) (word w) (word x) ++ comma ∷ word kind ∷ constant k) s (words_as false z b m n v k 0)
+unfolding bits_of braced
+reads_two_shifted s f w x kind b c h z m n v k mnemonic g p o t hk =
+    reads s f _ _ mnemonic g.is (short p ▹ short_comma ▹ short o ▹ short_comma ▹ short t ▹ short_hash ▹ short_number k hk ▹ tt) refl (omega arith) refl
+    (rw (g.size, p.vector, p.value, o.value, t.value, min_small k hk) refl)
 
 pub reads_two_shift : (s f w x kind : List ℕ) (b c h : Bool) (z m n v k : ℕ) → is_mnemonic s ≡ true → Suffix f z → Operand w m b → Operand x n c
     → Operand kind v h
     → k < 2 ^ 32
-    → Reads (and_shift (two (s ++ f) (word w) (word x)) kind k) s (given false z b m n (kind_given v k) k 0)
+    → Reads (and_shift (two (s ++ f) (word w) (word x)) kind k) s (words_as false z b m n (kind_given v k) k 0)
 reads_two_shift s f w x kind b c h z m n v k mnemonic g p o t hk =
     elim (cases_Bool (eqb k 0)) [
       | inl e ↦ rw (eqb-true k 0 e) (reads_two s f w x b c z m n mnemonic g p o)
@@ -240,36 +230,29 @@ saturated name w l x = and_operand (and_constant (one name (word w)) l) (word x)
 
 pub reads_saturate : (s f w x kind : List ℕ) (b c h : Bool) (z m n l v k : ℕ) → is_mnemonic s ≡ true → Suffix f z → Operand w m b → l < 2 ^ 32 → Operand x n c
     → Operand kind v h → k < 2 ^ 32
-    → Reads (saturated (s ++ f) w l x ++ comma ∷ word kind ∷ constant k) s (second_numbered false z b m l n v k)
-reads_saturate s f w x kind b c h z m n l v k mnemonic g p hl o t hk = record {
-  asks = rw (cut s f mnemonic g.is, g.size, p.vector, p.value, o.value, t.value, min_small l hl, min_small k hk) refl;
-  prints =
-      is_printed s f _ mnemonic g.is
-      (short_word w p.is ▹ short_comma ▹ short_hash ▹ short_number l hl ▹ short_comma ▹ short_word x o.is ▹ short_comma ▹ short_word kind t.is
-      ▹ short_hash ▹ short_number k hk ▹ tt)
-      refl (omega arith) refl;
-}
+    → Reads (saturated (s ++ f) w l x ++ comma ∷ word kind ∷ constant k) s (second_numbered_as false z b m l n v k)
+unfolding bits_of braced
+reads_saturate s f w x kind b c h z m n l v k mnemonic g p hl o t hk =
+    reads s f _ _ mnemonic g.is
+    (short p ▹ short_comma ▹ short_hash ▹ short_number l hl ▹ short_comma ▹ short o ▹ short_comma ▹ short t ▹ short_hash ▹ short_number k hk ▹ tt) refl
+    (omega arith) refl (rw (g.size, p.vector, p.value, o.value, t.value, min_small l hl, min_small k hk) refl)
 
 -- with no suffix
-pub bare : (shape : List ℕ → List Tok) (s : List ℕ) (o : Operands) → Reads (shape (s ++ [])) s o → Reads (shape s) s o
-bare shape s o reads = subst (λ (name : List ℕ). Reads (shape name) s o) (append-nil s) reads
+pub bare : (s : List ℕ) (ts : List Tok) (o : Operands) → Reads (word (s ++ []) ∷ ts) s o → Reads (word s ∷ ts) s o
+bare s ts o reads_ = subst (λ (name : List ℕ). Reads (word name ∷ ts) s o) (append-nil s) reads_
 
 -- a register that is shifted
 reads_three_shifted : (s f w x y kind : List ℕ) (b c e h : Bool) (z m n l v k : ℕ) → is_mnemonic s ≡ true → Suffix f z → Operand w m b → Operand x n c
     → Operand y l e → Operand kind v h → k < 2 ^ 32
-    → Reads (three (s ++ f) (word w) (word x) (word y) ++ comma ∷ word kind ∷ constant k) s (given false z b m n l v k)
-reads_three_shifted s f w x y kind b c e h z m n l v k mnemonic g p o i t hk = record {
-  asks = rw (cut s f mnemonic g.is, g.size, p.vector, p.value, o.value, i.value, t.value, min_small k hk) refl;
-  prints =
-      is_printed s f _ mnemonic g.is
-      (short_word w p.is ▹ short_comma ▹ short_word x o.is ▹ short_comma ▹ short_word y i.is ▹ short_comma ▹ short_word kind t.is ▹ short_hash
-      ▹ short_number k hk ▹ tt)
-      refl (omega arith) refl;
-}
+    → Reads (three (s ++ f) (word w) (word x) (word y) ++ comma ∷ word kind ∷ constant k) s (words_as false z b m n l v k)
+unfolding bits_of braced
+reads_three_shifted s f w x y kind b c e h z m n l v k mnemonic g p o i t hk =
+    reads s f _ _ mnemonic g.is (short p ▹ short_comma ▹ short o ▹ short_comma ▹ short i ▹ short_comma ▹ short t ▹ short_hash ▹ short_number k hk ▹ tt) refl
+    (omega arith) refl (rw (g.size, p.vector, p.value, o.value, i.value, t.value, min_small k hk) refl)
 
 pub reads_three_shift : (s f w x y kind : List ℕ) (b c e h : Bool) (z m n l v k : ℕ) → is_mnemonic s ≡ true → Suffix f z → Operand w m b → Operand x n c
     → Operand y l e → Operand kind v h → k < 2 ^ 32
-    → Reads (and_shift (three (s ++ f) (word w) (word x) (word y)) kind k) s (given false z b m n l (kind_given v k) k)
+    → Reads (and_shift (three (s ++ f) (word w) (word x) (word y)) kind k) s (words_as false z b m n l (kind_given v k) k)
 reads_three_shift s f w x y kind b c e h z m n l v k mnemonic g p o i t hk =
     elim (cases_Bool (eqb k 0)) [
       | inl is ↦ rw (eqb-true k 0 is) (reads_three s f w x y b c e z m n l mnemonic g p o i)

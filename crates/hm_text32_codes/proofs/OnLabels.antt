@@ -1,14 +1,12 @@
--- Rows with a label: their texts ask for their codes, where the label names their targets.
-use Rattle.std.proofs.Common.{◌≡◌, ℕ, zero, suc, ◌+◌, ◌-◌, ◌*◌, ◌/◌, ◌%◌, ◌^◌, ◌<◌, ◌≤◌, true, List, [], ◌∷◌, ◌++◌, Some, None, refl, ap, ◌∙◌}
+-- Rows with a label: their texts give their mnemonics and their operands; and their fields, by the address that the label names.
+use Rattle.std.proofs.Common.{◌≡◌, ℕ, zero, suc, ◌+◌, ◌-◌, ◌*◌, ◌/◌, ◌%◌, ◌^◌, ◌<◌, ◌≤◌, false, true, List, [], ◌∷◌, ◌++◌, refl, ap, ◌∙◌}
 use Rattle.std.proofs.Common.{inl, inr, arith}
-use Rattle.std.specs.Prelude.{codes, is_none, nat_eq, nat_lt}
+use Rattle.std.specs.Prelude.{codes, nat_eq, nat_lt}
 use Rattle.std.proofs.lemmas.Bool.{cases_Bool}
 use Rattle.std.proofs.lemmas.Bool.Decides.{nat_tests}
-use Rattle.hm_isa.specs.declared.widths.WideRow.TheVariants as wide_row
 use Rattle.hm_isa.specs.declared.jumps.LoopEnd.{LoopEnd}
 use Rattle.hm_isa.specs.declared.jumps.LoopEndName.{LoopEndName}
 use Rattle.hm_isa.specs.declared.jumps.LoopEndName.TheVariants as loop_end
-use Rattle.hm_isa.specs.declared.jumps.T16.{T16}
 use Rattle.hm_isa.specs.declared.jumps.T16.TheVariants as t16
 use Rattle.hm_isa.specs.declared.jumps.T23.TheVariants as t23
 use Rattle.hm_isa.specs.declared.jumps.WideAlways.{WideAlways}
@@ -17,41 +15,109 @@ use Rattle.hm_isa.specs.declared.jumps.WideBranchName.TheVariants as wide_branch
 use Rattle.hm_isa.specs.declared.jumps.WideConditional.{WideConditional}
 use Rattle.hm_isa.specs.declared.jumps.Wls.{Wls}
 use Rattle.hm_isa.specs.declared.jumps.Wlstp.{Wlstp}
-use Rattle.hm_isa.specs.JumpCodes.{code_wide_always, code_wide_conditional, code_wls, code_wlstp, loop_end_base, wide_branch_base}
+use Rattle.hm_isa.specs.declared.widths.WideRow.TheVariants as rows
+use Rattle.hm_isa.specs.JumpCodes.{code_wide_always, code_wide_conditional, wide_branch_base}
 use Rattle.hm_isa.specs.Standing.{◌↑◌}
 use Rattle.hm_isa.specs.Words.{sign_extended}
 use Rattle.hm_isa.specs.Distances.{alike, wide_always_distance, wide_conditional_distance}
+use Rattle.hm_tokens.proofs.Addresses.{ends_in_mark}
+use Rattle.hm_tokens.proofs.Again.{are_apart}
+use Rattle.hm_tokens.proofs.Ranges.{has_no_ranges}
 use Rattle.hm_tokens.specs.Names.{register_name}
-use Rattle.hm_tokens.specs.Tokens.{Tok, comma}
-use Rattle.hm_text_rows.specs.Labels.{behind, distance}
+use Rattle.hm_tokens.specs.Tokens.{Tok, word, number, mark, comma}
+use Rattle.hm_text_rows.specs.Labels.{IsLabel, behind, distance}
 use Rattle.hm_text_rows.specs.Mnemonics.{branch_mnemonic, element_suffix}
-use Rattle.hm_text_rows.specs.Operands.{size_of}
+use Rattle.hm_text_rows.specs.Operands.{bits_of, braced, is_number, is_vector_name, size_of}
 use Rattle.hm_text_rows.specs.Shapes.{r}
-use Rattle.hm_text_rows.proofs.Printed.{IsPrintedAt, is_printed_at, short_comma, short_word}
-use Rattle.hm_text_rows.proofs.Branches.{condition_back, distance_back, mnemonic_branch}
-use Rattle.hm_text_rows.proofs.Words.{◌▹◌, below_holds, is_mnemonic, is_suffix, none_is, word_r}
-use Rattle.hm_text32_codes.specs.Codes.{ahead, always_code, behind_it, code_in, code_of, code_of_label, code_of_memory, conditional_code}
-use Rattle.hm_text32_rows.specs.Rows.{loop_end_tokens}
+use Rattle.hm_text_rows.proofs.Printed.{AreShort, IsShort, is_printed_at, room, short_comma, short_word}
+use Rattle.hm_text_rows.proofs.Branches.{distance_back, mnemonic_branch}
+use Rattle.hm_text_rows.proofs.Words.{◌▹◌, cut, is_mnemonic, is_suffix}
 use Rattle.hm_text32_rows.specs.Mnemonics.{wide, wide_branch_mnemonic, wide_branch_suffix}
-use Rattle.hm_text32_codes.proofs.Asked.{IsNoPlain, Row, asks_label, label_row}
-use Rattle.hm_text32_codes.proofs.Forms.{a_register, suffix_element}
+use Rattle.hm_text32_rows.specs.Rows.{loop_end_tokens}
+use Rattle.hm_text32_codes.specs.declared.operands.Operands.{Operands}
+use Rattle.hm_text32_codes.specs.Asked.{given_sized, label_given, loop_end_mnemonic, loop_end_operands}
+use Rattle.hm_text32_codes.specs.Operands.{operands_in, read_operands, value, word_value}
+use Rattle.hm_text32_codes.proofs.Asked.{LabelReads, ReadsAt}
+use Rattle.hm_text32_codes.proofs.Forms.{Suffix, a_register, no_suffix, short, suffix_element, suffix_wide, the_mnemonic}
 
--- T16 WITH A CONDITION
-no_conditional : (c : ℕ) → c < 14 → IsNoPlain (branch_mnemonic c)
-unfolding code_of
-no_conditional c lt o = none_is (below_holds (λ j. is_none (code_of (branch_mnemonic j) o)) 14 c refl lt)
+-- TEXTS
+-- tokens behind a mnemonic and a suffix and before a label, which is a word or a number: where they are short, and what they give
+reads_at : (s f : List ℕ) (ts : List Tok) (o : Tok → Operands) → is_mnemonic s ≡ true → is_suffix f ≡ true → AreShort ts → are_apart ts ≡ true
+    → ends_in_mark ts ≡ true → room ts ≤ 68 → has_no_ranges ts ≡ true → ((v : List ℕ) → read_operands f (ts ++ word v ∷ []) ≡ o (word v))
+    → ((n : ℕ) → read_operands f (ts ++ number n ∷ []) ≡ o (number n)) → ReadsAt (word (s ++ f) ∷ ts) s o
+reads_at s f ts o mnemonic suffix short apart ends le none by_word by_number = record {
+  mnemonic = λ t. the_mnemonic s f (ts ++ t ∷ []) mnemonic suffix;
+  gives = given_by;
+  prints = is_printed_at s f ts mnemonic suffix short apart ends le none;
+}
+  where
+    given_by : (t : Tok) → IsLabel t → operands_in (word (s ++ f) ∷ (ts ++ t ∷ [])) ≡ o t
+    given_by (word v) is = ap (λ (p : List ℕ × List ℕ). read_operands p.1 (ts ++ word v ∷ [])) (cut s f mnemonic suffix) ∙ by_word v
+    given_by (number n) is = ap (λ (p : List ℕ × List ℕ). read_operands p.1 (ts ++ number n ∷ [])) (cut s f mnemonic suffix) ∙ by_number n
+    given_by (mark c) is = absurd is
 
-abbrev IsNoAccess : List ℕ → Type 0
-IsNoAccess s = (us : List Tok) → code_of_memory s us ≡ None
+-- a label alone
+reads_label : (s f : List ℕ) → is_mnemonic s ≡ true → Suffix f 0 → ReadsAt (word (s ++ f) ∷ []) s label_given
+unfolding bits_of braced
+reads_label s f mnemonic g = reads_at s f [] label_given mnemonic g.is tt refl refl (omega arith) refl (λ v. rw (g.size) refl) (λ n. rw (g.size) refl)
 
-no_conditional_access : (c : ℕ) → c < 14 → IsNoAccess (branch_mnemonic c)
-unfolding code_of_memory
-no_conditional_access c lt us = none_is (below_holds (λ j. is_none (code_of_memory (branch_mnemonic j) us)) 14 c refl lt)
+-- lr and a label
+lr_short : IsShort (r 14)
+lr_short = short_word (register_name 14) refl
 
-asks_conditional : (c : ℕ) (f : List ℕ) (us : List Tok) (pc a : ℕ) → c < 14
-    → code_of_label (branch_mnemonic c) f us pc a ≡ Some (conditional_code c (distance (pc + 4) a / 2))
-unfolding code_of_label
-asks_conditional c f us pc a lt = rw (condition_back c lt) refl
+reads_lr : (s : List ℕ) → is_mnemonic s ≡ true
+    → ReadsAt (word (s ++ []) ∷ r 14 ∷ comma ∷ []) s (λ t. given_sized 0 (is_number t) false 14 (value t) 0 0 0)
+unfolding bits_of braced word_value is_vector_name size_of
+reads_lr s mnemonic =
+    reads_at s [] _ _ mnemonic refl (lr_short ▹ short_comma ▹ tt) refl refl (omega arith) refl (λ v. refl) (λ n. refl)
+
+-- lr, another register and a label
+reads_start : (s f : List ℕ) (z n : ℕ) → is_mnemonic s ≡ true → Suffix f z → n < 16
+    → ReadsAt (word (s ++ f) ∷ r 14 ∷ comma ∷ r n ∷ comma ∷ []) s (λ t. given_sized z false (is_number t) 14 n (value t) 0 0)
+unfolding bits_of braced
+reads_start s f z n mnemonic g hn =
+    let p = a_register 14 (omega arith) in
+    let o = a_register n hn in
+    reads_at s f _ _ mnemonic g.is (lr_short ▹ short_comma ▹ short o ▹ short_comma ▹ tt) refl refl (omega arith) refl
+    (λ v. rw (g.size, p.vector, p.value, o.value) refl) (λ n. rw (g.size, p.vector, p.value, o.value) refl)
+
+-- T16
+pub row_conditional : (i : WideConditional) → LabelReads (rows.T16 (t16.Conditional i))
+row_conditional i = reads_label (branch_mnemonic i.c.value) wide (mnemonic_branch i.c.value i.c.in_range) suffix_wide
+
+always_reads : (name : WideBranchName)
+    → ReadsAt (word (wide_branch_mnemonic name ++ wide_branch_suffix name) ∷ []) (wide_branch_mnemonic name) label_given
+always_reads wide_branch.B = reads_label (codes "b") wide refl suffix_wide
+always_reads wide_branch.Bl = reads_label (codes "bl") [] refl no_suffix
+
+pub row_always : (i : WideAlways) → LabelReads (rows.T16 (t16.Always i))
+row_always i = always_reads i.name
+
+-- T23
+pub row_wls : (i : Wls) → LabelReads (rows.T23 (t23.Wls i))
+row_wls i = reads_start (codes "wls") [] 0 i.n.value refl no_suffix i.n.in_range
+
+pub row_wlstp : (i : Wlstp) → LabelReads (rows.T23 (t23.Wlstp i))
+row_wlstp i = reads_start (codes "wlstp") (element_suffix i.z.value) i.z.value i.n.value refl (suffix_element i.z.value i.z.in_range) i.n.in_range
+
+end_reads : (name : LoopEndName) → ReadsAt (loop_end_tokens name) (loop_end_mnemonic name) (loop_end_operands name)
+end_reads loop_end.LeLr = reads_lr (codes "le") refl
+end_reads loop_end.Letp = reads_lr (codes "letp") refl
+end_reads loop_end.Le = reads_label (codes "le") [] refl no_suffix
+
+pub row_end : (i : LoopEnd) → LabelReads (rows.T23 (t23.End i))
+row_end i = end_reads i.name
+
+-- FIELDS
+-- T16 with a condition: its code, where f is half the distance
+abbrev pub conditional_code : ℕ → ℕ → ℕ
+conditional_code c f = 0xf0008000 + (f / 2 ^ 19 % 2) ↑ 26 + c ↑ 22 + (f / 2 ^ 11 % 64) ↑ 16 + (f / 2 ^ 17 % 2) ↑ 13 + (f / 2 ^ 18 % 2) ↑ 11 + f % 2 ^ 11
+
+-- and without one
+abbrev pub always_code : ℕ → ℕ → ℕ
+always_code base f =
+    base + (f / 2 ^ 23 % 2) ↑ 26 + (f / 2 ^ 11 % 1024) ↑ 16 + alike (f / 2 ^ 22 % 2) (f / 2 ^ 23 % 2) ↑ 13 + alike (f / 2 ^ 21 % 2) (f / 2 ^ 23 % 2) ↑ 11
+    + f % 2 ^ 11
 
 -- a distance as a number of 32 bits, and half of it: so much and a multiple
 record Signed (whole d h : ℕ) : Type 0 where
@@ -85,30 +151,21 @@ module _ (s j2 j1 i6 i11 m : ℕ) (hs : s < 2) (h2 : j2 < 2) (h1 : j1 < 2) (h6 :
   abbrev near_field : ℕ
   near_field = near_half s j2 j1 i6 i11 + m * 2 ^ 20
 
-  near_sign : near_field / 2 ^ 19 % 2 ≡ s
-  near_sign = omega arith
-
-  near_two : near_field / 2 ^ 18 % 2 ≡ j2
-  near_two = omega arith
-
-  near_one : near_field / 2 ^ 17 % 2 ≡ j1
-  near_one = omega arith
-
-  near_six : near_field / 2 ^ 11 % 64 ≡ i6
-  near_six = omega arith
-
-  near_low : near_field % 2 ^ 11 ≡ i11
-  near_low = omega arith
-
   near_sum : (c : ℕ) → conditional_code c near_field ≡ 0xf0008000 + s ↑ 26 + c ↑ 22 + i6 ↑ 16 + j1 ↑ 13 + j2 ↑ 11 + i11
-  near_sum c = rw (near_sign, near_two, near_one, near_six, near_low) refl
+  near_sum c =
+      let sign : near_field / 2 ^ 19 % 2 ≡ s = omega arith in
+      let two : near_field / 2 ^ 18 % 2 ≡ j2 = omega arith in
+      let one : near_field / 2 ^ 17 % 2 ≡ j1 = omega arith in
+      let six : near_field / 2 ^ 11 % 64 ≡ i6 = omega arith in
+      let low : near_field % 2 ^ 11 ≡ i11 = omega arith in
+      rw (sign, two, one, six, low) refl
 
 near_small : (s j2 j1 i6 i11 : ℕ) → s < 2 → j2 < 2 → j1 < 2 → i6 < 64 → i11 < 2048 → near_half s j2 j1 i6 i11 < 2 ^ 20
 near_small s j2 j1 i6 i11 hs h2 h1 h6 hi = omega arith
 
-conditional_asks : (i : WideConditional) (pc a : ℕ) → pc < 2 ^ 32 → behind pc (wide_conditional_distance i) ≡ a
+pub conditional_back : (i : WideConditional) (pc a : ℕ) → pc < 2 ^ 32 → behind pc (wide_conditional_distance i) ≡ a
     → conditional_code i.c.value (distance (pc + 4) a / 2) ≡ code_wide_conditional i
-conditional_asks i pc a hp e =
+conditional_back i pc a hp e =
     let h = near_half i.s.value i.j2.value i.j1.value i.i6.value i.i11.value in
     let signed : Signed (2 ^ 20) (wide_conditional_distance i) h =
     near_signed (i.s.value * 2 ^ 20 + i.j2.value * 2 ^ 19 + i.j1.value * 2 ^ 18 + i.i6.value * 2 ^ 12 + i.i11.value * 2) h (omega arith)
@@ -119,17 +176,6 @@ conditional_asks i pc a hp e =
     ∙ near_sum i.s.value i.j2.value i.j1.value i.i6.value i.i11.value signed.more i.s.in_range i.j2.in_range i.j1.in_range i.i6.in_range i.i11.in_range
     i.c.value
 
-row_conditional : (i : WideConditional) → Row (wide_row.T16 (t16.Conditional i))
-row_conditional i =
-    label_row (wide_row.T16 (t16.Conditional i)) refl
-    (is_printed_at (branch_mnemonic i.c.value) wide [] (mnemonic_branch i.c.value i.c.in_range) refl tt refl refl (omega arith) refl)
-    (λ t pc a l hp re.
-    asks_label (branch_mnemonic i.c.value) wide (t ∷ []) pc a (code_wide_conditional i) (mnemonic_branch i.c.value i.c.in_range) refl
-    (no_conditional i.c.value i.c.in_range)
-    (no_conditional_access i.c.value i.c.in_range (t ∷ []))
-    (asks_conditional i.c.value wide (t ∷ []) pc a i.c.in_range ∙ ap (λ (w : ℕ). Some w) (conditional_asks i pc a hp re)))
-
--- T16 WITHOUT A CONDITION
 abbrev far_half : ℕ → ℕ → ℕ → ℕ → ℕ → ℕ
 far_half s x1 x2 i10 i11 = s * 2 ^ 23 + x1 * 2 ^ 22 + x2 * 2 ^ 21 + i10 * 2 ^ 11 + i11
 
@@ -143,30 +189,21 @@ module _ (s x1 x2 i10 i11 m : ℕ) (hs : s < 2) (h1 : x1 < 2) (h2 : x2 < 2) (h10
   abbrev far_field : ℕ
   far_field = far_half s x1 x2 i10 i11 + m * 2 ^ 24
 
-  far_sign : far_field / 2 ^ 23 % 2 ≡ s
-  far_sign = omega arith
-
-  far_one : far_field / 2 ^ 22 % 2 ≡ x1
-  far_one = omega arith
-
-  far_two : far_field / 2 ^ 21 % 2 ≡ x2
-  far_two = omega arith
-
-  far_ten : far_field / 2 ^ 11 % 1024 ≡ i10
-  far_ten = omega arith
-
-  far_low : far_field % 2 ^ 11 ≡ i11
-  far_low = omega arith
-
   far_sum : (base : ℕ) → always_code base far_field ≡ base + s ↑ 26 + i10 ↑ 16 + alike x1 s ↑ 13 + alike x2 s ↑ 11 + i11
-  far_sum base = rw (far_sign, far_one, far_two, far_ten, far_low) refl
+  far_sum base =
+      let sign : far_field / 2 ^ 23 % 2 ≡ s = omega arith in
+      let one : far_field / 2 ^ 22 % 2 ≡ x1 = omega arith in
+      let two : far_field / 2 ^ 21 % 2 ≡ x2 = omega arith in
+      let ten : far_field / 2 ^ 11 % 1024 ≡ i10 = omega arith in
+      let low : far_field % 2 ^ 11 ≡ i11 = omega arith in
+      rw (sign, one, two, ten, low) refl
 
 far_small : (s x1 x2 i10 i11 : ℕ) → s < 2 → x1 < 2 → x2 < 2 → i10 < 1024 → i11 < 2048 → far_half s x1 x2 i10 i11 < 2 ^ 24
 far_small s x1 x2 i10 i11 hs h1 h2 h10 hi = omega arith
 
-always_asks : (i : WideAlways) (pc a : ℕ) → pc < 2 ^ 32 → behind pc (wide_always_distance i) ≡ a
+pub always_back : (i : WideAlways) (pc a : ℕ) → pc < 2 ^ 32 → behind pc (wide_always_distance i) ≡ a
     → always_code (wide_branch_base i.name) (distance (pc + 4) a / 2) ≡ code_wide_always i
-always_asks i pc a hp e =
+always_back i pc a hp e =
     let s = i.s.value in
     let x1 = alike i.j1.value s in
     let x2 = alike i.j2.value s in
@@ -183,42 +220,12 @@ always_asks i pc a hp e =
     ∙ (λ k. wide_branch_base i.name + s ↑ 26 + i.i10.value ↑ 16 + alike_back i.j1.value s i.j1.in_range i.s.in_range k ↑ 13 + alike_back i.j2.value s
     i.j2.in_range i.s.in_range k ↑ 11 + i.i11.value)
 
--- their mnemonics, and what follows
-record Always (name : WideBranchName) : Type 0 where
-  mnemonic : is_mnemonic (wide_branch_mnemonic name) ≡ true
-  suffix : is_suffix (wide_branch_suffix name) ≡ true
-  none : IsNoPlain (wide_branch_mnemonic name)
-  access : IsNoAccess (wide_branch_mnemonic name)
-  asks : (f : List ℕ) (us : List Tok) (pc a : ℕ)
-      → code_of_label (wide_branch_mnemonic name) f us pc a ≡ Some (always_code (wide_branch_base name) (distance (pc + 4) a / 2))
-
-always : (name : WideBranchName) → Always name
-unfolding code_of code_of_memory code_of_label
-always wide_branch.B = record { mnemonic = refl; suffix = refl; none = λ o. refl; access = λ us. refl; asks = λ f us pc a. refl }
-always wide_branch.Bl = record { mnemonic = refl; suffix = refl; none = λ o. refl; access = λ us. refl; asks = λ f us pc a. refl }
-
-row_always : (i : WideAlways) → Row (wide_row.T16 (t16.Always i))
-row_always i =
-    let x = always i.name in
-    let s = wide_branch_mnemonic i.name in
-    let f = wide_branch_suffix i.name in
-    label_row (wide_row.T16 (t16.Always i)) refl
-    (is_printed_at s f [] x.mnemonic x.suffix tt refl refl (omega arith) refl)
-    (λ t pc a l hp re.
-    asks_label s f (t ∷ []) pc a (code_wide_always i) x.mnemonic x.suffix x.none (x.access (t ∷ []))
-    (x.asks f (t ∷ []) pc a ∙ ap (λ (w : ℕ). Some w) (always_asks i pc a hp re)))
-
-pub row_t16 : (i : T16) → Row (wide_row.T16 i)
-row_t16 (t16.Conditional i) = row_conditional i
-row_t16 (t16.Always i) = row_always i
-
--- T23
-ahead_back : (pc v a : ℕ) → pc < 2 ^ 32 → v < 2048 → behind pc (2 * v) ≡ a → ahead pc a ≡ v
+pub ahead_back : (pc v a : ℕ) → pc < 2 ^ 32 → v < 2048 → behind pc (2 * v) ≡ a → distance (pc + 4) a / 2 % 2048 ≡ v
 ahead_back pc v a hp hv e =
     let d = distance_back (pc + 4) (2 * v) a (omega arith) (omega arith) e in
     rw d (omega arith)
 
-behind_back : (pc v a : ℕ) → pc < 2 ^ 32 → v < 2048 → behind pc (2 ^ 32 - 2 * v) ≡ a → behind_it pc a ≡ v
+pub behind_back : (pc v a : ℕ) → pc < 2 ^ 32 → v < 2048 → behind pc (2 ^ 32 - 2 * v) ≡ a → (0x1_0000_0000 - distance (pc + 4) a) / 2 % 2048 ≡ v
 behind_back pc zero a hp hv e =
     let same : (pc + 4 + 0) % 2 ^ 32 ≡ a = omega (arith, e) in
     let d = distance_back (pc + 4) 0 a (omega arith) (omega arith) same in
@@ -226,82 +233,3 @@ behind_back pc zero a hp hv e =
 behind_back pc (suc v) a hp hv e =
     let d = distance_back (pc + 4) (2 ^ 32 - 2 * suc v) a (omega arith) (omega arith) e in
     rw d (omega arith)
-
-lr_small : 14 < 16
-lr_small = omega arith
-
-abbrev after : ℕ → Tok → List Tok
-after n t = r 14 ∷ comma ∷ r n ∷ comma ∷ t ∷ []
-
-asks_wls : (f : List ℕ) (n v : ℕ) (t : Tok) (pc a : ℕ) → n < 16 → ahead pc a ≡ v
-    → code_of_label (codes "wls") f (after n t) pc a ≡ Some (0xf040c001 + n ↑ 16 + ((v / 2) ↑ 1 + (v % 2) ↑ 11))
-unfolding code_of_label
-asks_wls f n v t pc a hn e = rw ((a_register n hn).value, e) (ap (λ (w : ℕ). Some w) (omega arith))
-
-pub row_wls : (i : Wls) → Row (wide_row.T23 (t23.Wls i))
-unfolding code_of code_of_memory
-row_wls i =
-    label_row (wide_row.T23 (t23.Wls i)) refl
-    (is_printed_at (codes "wls") [] _ refl refl
-    (short_word (register_name 14) (word_r 14 lr_small) ▹ short_comma ▹ short_word (register_name i.n.value) (word_r i.n.value i.n.in_range)
-    ▹ short_comma ▹ tt) refl refl (omega arith) refl)
-    (λ t pc a l hp re.
-    asks_label (codes "wls") [] (after i.n.value t) pc a (code_wls i) refl refl (λ o. refl) refl
-    (asks_wls [] i.n.value i.v.value t pc a i.n.in_range (ahead_back pc i.v.value a hp i.v.in_range re)))
-
-asks_wlstp : (f : List ℕ) (z n v : ℕ) (t : Tok) (pc a : ℕ) → n < 16 → size_of f ≡ z → ahead pc a ≡ v
-    → code_of_label (codes "wlstp") f (after n t) pc a ≡ Some (0xf000c001 + z ↑ 20 + n ↑ 16 + ((v / 2) ↑ 1 + (v % 2) ↑ 11))
-unfolding code_of_label
-asks_wlstp f z n v t pc a hn s e = rw ((a_register n hn).value, s, e) (ap (λ (w : ℕ). Some w) (omega arith))
-
-pub row_wlstp : (i : Wlstp) → Row (wide_row.T23 (t23.Wlstp i))
-unfolding code_of code_of_memory
-row_wlstp i =
-    let f = element_suffix i.z.value in
-    let g = suffix_element i.z.value i.z.in_range in
-    label_row (wide_row.T23 (t23.Wlstp i)) refl
-    (is_printed_at (codes "wlstp") f _ refl g.is
-    (short_word (register_name 14) (word_r 14 lr_small) ▹ short_comma ▹ short_word (register_name i.n.value) (word_r i.n.value i.n.in_range)
-    ▹ short_comma ▹ tt) refl refl (omega arith) refl)
-    (λ t pc a l hp re.
-    asks_label (codes "wlstp") f (after i.n.value t) pc a (code_wlstp i) refl g.is (λ o. refl) refl
-    (asks_wlstp f i.z.value i.n.value i.v.value t pc a i.n.in_range g.size (ahead_back pc i.v.value a hp i.v.in_range re)))
-
-record End (name : LoopEndName) : Type 0 where
-  prints : IsPrintedAt (loop_end_tokens name)
-  asks : (v : ℕ) (t : Tok) (pc a : ℕ) → behind_it pc a ≡ v
-      → code_in (loop_end_tokens name ++ t ∷ []) pc a ≡ Some (loop_end_base name + ((v / 2) ↑ 1 + (v % 2) ↑ 11))
-
-asks_le : (t : Tok) (pc a v : ℕ) → behind_it pc a ≡ v → code_of_label (codes "le") [] (t ∷ []) pc a ≡ Some (0xf02fc001 + ((v / 2) ↑ 1 + (v % 2) ↑ 11))
-unfolding code_of_label
-asks_le t pc a v e = rw e (ap (λ (w : ℕ). Some w) (omega arith))
-
-asks_le_lr : (t : Tok) (pc a v : ℕ) → behind_it pc a ≡ v
-    → code_of_label (codes "le") [] (r 14 ∷ comma ∷ t ∷ []) pc a ≡ Some (0xf00fc001 + ((v / 2) ↑ 1 + (v % 2) ↑ 11))
-unfolding code_of_label
-asks_le_lr t pc a v e = rw e (ap (λ (w : ℕ). Some w) (omega arith))
-
-asks_letp : (t : Tok) (pc a v : ℕ) → behind_it pc a ≡ v
-    → code_of_label (codes "letp") [] (r 14 ∷ comma ∷ t ∷ []) pc a ≡ Some (0xf01fc001 + ((v / 2) ↑ 1 + (v % 2) ↑ 11))
-unfolding code_of_label
-asks_letp t pc a v e = rw e (ap (λ (w : ℕ). Some w) (omega arith))
-
-end_of : (name : LoopEndName) → End name
-unfolding code_of code_of_memory
-end_of loop_end.LeLr = record {
-  prints = is_printed_at (codes "le") [] _ refl refl (short_word (register_name 14) (word_r 14 lr_small) ▹ short_comma ▹ tt) refl refl (omega arith) refl;
-  asks = λ v t pc a e. asks_label (codes "le") [] (r 14 ∷ comma ∷ t ∷ []) pc a _ refl refl (λ o. refl) refl (asks_le_lr t pc a v e);
-}
-end_of loop_end.Letp = record {
-  prints = is_printed_at (codes "letp") [] _ refl refl (short_word (register_name 14) (word_r 14 lr_small) ▹ short_comma ▹ tt) refl refl (omega arith) refl;
-  asks = λ v t pc a e. asks_label (codes "letp") [] (r 14 ∷ comma ∷ t ∷ []) pc a _ refl refl (λ o. refl) refl (asks_letp t pc a v e);
-}
-end_of loop_end.Le = record {
-  prints = is_printed_at (codes "le") [] [] refl refl tt refl refl (omega arith) refl;
-  asks = λ v t pc a e. asks_label (codes "le") [] (t ∷ []) pc a _ refl refl (λ o. refl) refl (asks_le t pc a v e);
-}
-
-pub row_end : (i : LoopEnd) → Row (wide_row.T23 (t23.End i))
-row_end i =
-    label_row (wide_row.T23 (t23.End i)) refl (end_of i.name).prints
-    (λ t pc a l hp re. (end_of i.name).asks i.v.value t pc a (behind_back pc i.v.value a hp i.v.in_range re))

@@ -2,7 +2,7 @@
 use Rattle.std.proofs.Common.{◌≡◌, ℕ, zero, suc, ◌+◌, ◌-◌, ◌/◌, ◌<◌, ◌≤◌, refl, arith}
 use Rattle.std.specs.Prelude.{nat_lt, false, true}
 use Rattle.std.proofs.lemmas.Bool.Decides.{nat_tests}
-use Rattle.hm_text32_codes.specs.Codes.{shift_of}
+use Rattle.hm_text32_codes.specs.Constants.{shift_of}
 
 pub none_left : (n c : ℕ) → n ≡ 0 → 0 ≡ shift_of n c
 unfolding shift_of

@@ -1,3 +1,4 @@
 pub mod Operands
 pub mod Names
-pub mod Codes
+pub mod Constants
+pub mod Asked

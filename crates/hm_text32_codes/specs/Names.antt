@@ -1,5 +1,6 @@
 -- The names of rows of two halfwords, no vector rows, that a mnemonic may be of; numbers of shifts, and special registers.
-use Rattle.std.specs.Prelude.{ℕ, List, [], ◌∷◌}
+use Rattle.std.specs.Prelude.{ℕ, Bool, List, [], ◌∷◌, Option, option_map, is_some}
+use Rattle.std.specs.Option.{option_or}
 use Rattle.hm_isa.specs.declared.arith.AccumulateName.{AccumulateName}
 use Rattle.hm_isa.specs.declared.arith.AccumulateName.TheVariants as accumulate
 use Rattle.hm_isa.specs.declared.arith.BitsName.{BitsName}
@@ -34,19 +35,15 @@ use Rattle.hm_isa.specs.declared.wide.StackName.{StackName}
 use Rattle.hm_isa.specs.declared.wide.StackName.TheVariants as stack
 use Rattle.hm_isa.specs.declared.wide.WideListName.{WideListName}
 use Rattle.hm_isa.specs.declared.wide.WideListName.TheVariants as wide_list
+use Rattle.hm_text_rows.specs.Names.{named, named_with_bit}
+use Rattle.hm_text32_codes.specs.declared.names.DataKind.{DataKind}
+use Rattle.hm_text32_codes.specs.declared.names.DataKind.TheVariants as kind
+use Rattle.hm_text32_rows.specs.Mnemonics.{carry_mnemonic, data_mnemonic, move_mnemonic, test_mnemonic, turn_mnemonic}
 
 -- T1 and T2: AND, BIC, ORR, ORN, EOR, ADD, ADC, SBC, SUB and RSB
 abbrev pub data_names : List DataName
 data_names =
     data_.And ∷ data_.Bic ∷ data_.Orr ∷ data_.Orn ∷ data_.Eor ∷ data_.Add ∷ data_.Adc ∷ data_.Sbc ∷ data_.Sub ∷ data_.Rsb ∷ []
-
--- T1 and T2: TST, TEQ, CMN and CMP, which have no register for the result
-abbrev pub test_names : List DataName
-test_names = data_.And ∷ data_.Eor ∷ data_.Add ∷ data_.Sub ∷ []
-
--- T1 and T2: MOV and MVN, which have no first register
-abbrev pub move_names : List DataName
-move_names = data_.Orr ∷ data_.Orn ∷ []
 
 -- T2: LSL, LSR, ASR and ROR, by their numbers
 abbrev pub shift_numbers : List ℕ
@@ -63,10 +60,6 @@ saturate_names = saturate.Ssat ∷ saturate.Usat ∷ []
 -- T6: SBFX and UBFX
 abbrev pub extract_names : List ExtractName
 extract_names = extract.Sbfx ∷ extract.Ubfx ∷ []
-
--- T8: LSL, LSR, ASR and ROR
-abbrev pub wide_shift_names : List WideShiftName
-wide_shift_names = wide_shift.Lsl ∷ wide_shift.Lsr ∷ wide_shift.Asr ∷ wide_shift.Ror ∷ []
 
 -- T10: REV, REV16, RBIT, REVSH and CLZ
 abbrev pub bits_names : List BitsName
@@ -115,3 +108,41 @@ barrier_names = barrier.Dsb ∷ barrier.Dmb ∷ barrier.Isb ∷ []
 -- T20: CSEL, CSINC, CSINV and CSNEG
 abbrev pub select_names : List SelectName
 select_names = select.Csel ∷ select.Csinc ∷ select.Csinv ∷ select.Csneg ∷ []
+
+-- MNEMONICS of some rows alone
+-- T1, T2 and T8: the mnemonic that says this (DDI0553, "Data-processing (modified immediate)" and "Data-processing (shifted register)")
+abbrev pub kind_mnemonic : DataKind → List ℕ
+kind_mnemonic (kind.Three name s) = data_mnemonic name s
+kind_mnemonic (kind.Test name) = test_mnemonic name
+kind_mnemonic (kind.Move name s) = move_mnemonic name s
+kind_mnemonic (kind.Carry s) = carry_mnemonic s
+kind_mnemonic (kind.Turn ty s) = turn_mnemonic ty s
+
+-- T1 and T2: TST, TEQ, CMN and CMP, which have no register for the result, and MOV and MVN, which have no first register
+abbrev pub move_kinds : List DataKind
+move_kinds =
+    kind.Test data_.And ∷ kind.Test data_.Eor ∷ kind.Test data_.Add ∷ kind.Test data_.Sub
+    ∷ kind.Move data_.Orr 0 ∷ kind.Move data_.Orr 1 ∷ kind.Move data_.Orn 0 ∷ kind.Move data_.Orn 1 ∷ []
+
+-- T2 and T8: RRX, and LSL, LSR, ASR and ROR
+abbrev pub turn_kinds : List DataKind
+turn_kinds =
+    kind.Carry 0 ∷ kind.Carry 1 ∷ kind.Turn 0 0 ∷ kind.Turn 0 1 ∷ kind.Turn 1 0 ∷ kind.Turn 1 1 ∷ kind.Turn 2 0 ∷ kind.Turn 2 1
+    ∷ kind.Turn 3 0 ∷ kind.Turn 3 1 ∷ []
+
+-- T1, T2 and T8: what a mnemonic says (DDI0553, "Data-processing (modified immediate)" and "Data-processing (shifted register)")
+abbrev pub kind_in : List ℕ → Option DataKind
+kind_in s =
+    option_or (option_map (λ p. kind.Three p.0 p.1) (named_with_bit data_mnemonic data_names s))
+    (option_or (named kind_mnemonic move_kinds s) (named kind_mnemonic turn_kinds s))
+
+-- T8: the number of a shift (DDI0553, "LSL (register)", "LSR (register)", "ASR (register)" and "ROR (register)")
+abbrev pub turn_of : WideShiftName → ℕ
+turn_of wide_shift.Lsl = 0
+turn_of wide_shift.Lsr = 1
+turn_of wide_shift.Asr = 2
+turn_of wide_shift.Ror = 3
+
+-- T1, T2 and T8: whether a mnemonic is that of AND to RSB, TST to CMP, MOV and MVN, RRX, or LSL to ROR
+abbrev pub has_data_mnemonic : List ℕ → Bool
+has_data_mnemonic s = is_some (kind_in s)

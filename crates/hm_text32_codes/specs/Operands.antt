@@ -3,14 +3,14 @@ use Rattle.std.specs.Prelude.{ℕ, ◌%◌, ◌^◌, List, [], ◌∷◌, length
 use Rattle.std.specs.Option.{option_or}
 use Rattle.hm_isa.specs.declared.system.ReadName.{ReadName}
 use Rattle.hm_isa.specs.SystemCodes.{read_base}
+use Rattle.hm_text_base.specs.Spans.{span}
 use Rattle.hm_tokens.specs.declared.marks.Mark.TheVariants as marks
 use Rattle.hm_tokens.specs.Names.{condition_in, double_in, register_in, vector_in}
-use Rattle.hm_tokens.specs.Tokens.{Tok, is_the_mark}
+use Rattle.hm_tokens.specs.Tokens.{Tok, word, number, is_the_mark, point}
 use Rattle.hm_text_rows.specs.Names.{named}
-use Rattle.hm_text_rows.specs.Operands.{added, back_in, before, first_of, is_number, is_vector, operand, size_of, value_by}
+use Rattle.hm_text_rows.specs.Operands.{added, back_in, before, bits_of, braced, first_of, first_word, is_number, is_vector, operand, size_of, value_by}
 use Rattle.hm_text32_rows.specs.Mnemonics.{carry_mnemonic, read_name, shift_mnemonic}
 use Rattle.hm_text32_codes.specs.declared.operands.Operands.{Operands}
-use Rattle.hm_text32_codes.specs.declared.operands.Places.{Places}
 use Rattle.hm_text32_codes.specs.Names.{shift_numbers, special_names}
 
 -- the number of the shift that a word names; RRX is a rotation by 0
@@ -45,10 +45,16 @@ word_value w =
 abbrev pub value : Tok → ℕ
 value = value_by word_value
 
--- what stands behind a mnemonic, as numbers: the element size, five operands, and which of them are numbers or vectors
+-- 1 where `!` stands behind the first token
+abbrev pub second_bang : List Tok → ℕ
+second_bang [] = 0
+second_bang (t ∷ ts) = if is_the_mark marks.Bang (first_of ts) then 1 else 0
+
+-- what stands behind a mnemonic, as numbers: the element size, five operands, what they are, how an address is written, and the registers in braces
 abbrev pub read_operands : List ℕ → List Tok → Operands
 read_operands suffix ts = record {
   is_bare = length ts == 0;
+  is_single = length ts == 1;
   size = size_of suffix;
   is_vector = is_vector (operand 0 ts);
   second_is_number = is_number (operand 1 ts);
@@ -58,23 +64,22 @@ read_operands suffix ts = record {
   third = value (operand 2 ts);
   fourth = value (operand 3 ts);
   fifth = value (operand 4 ts);
-}
-
--- what stands behind the mnemonic of a load or store, as numbers: its operands, and how the address is written
-abbrev pub read_places : List Tok → Places
-read_places ts = record {
-  third_is_number = is_number (operand 2 ts);
-  first = value (operand 0 ts);
-  second = value (operand 1 ts);
-  third = value (operand 2 ts);
-  fourth = value (operand 3 ts);
-  fifth = value (operand 4 ts);
   added = added ts;
   before = before ts;
   back = back_in ts;
+  bang = second_bang ts;
+  registers = bits_of (braced ts);
 }
 
--- 1 where `!` stands behind the first token
-abbrev pub second_bang : List Tok → ℕ
-second_bang [] = 0
-second_bang (t ∷ ts) = if is_the_mark marks.Bang (first_of ts) then 1 else 0
+-- the tokens behind the first
+abbrev pub behind_first : List Tok → List Tok
+behind_first [] = []
+behind_first (t ∷ ts) = ts
+
+-- the mnemonic of tokens
+abbrev pub mnemonic_in : List Tok → List ℕ
+mnemonic_in ts = (span point (first_word ts)).0
+
+-- the operands of tokens
+abbrev pub operands_in : List Tok → Operands
+operands_in ts = read_operands (span point (first_word ts)).1 (behind_first ts)

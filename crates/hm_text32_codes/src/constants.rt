@@ -1,7 +1,7 @@
 //! The constants of rows T1.
 
 ghost use Rattle.std.specs.Prelude.{◌≡◌, ◌≤◌};
-ghost use Rattle.hm_text32_codes.specs.Codes.{constant_field, rotated_field, shift_of};
+ghost use Rattle.hm_text32_codes.specs.Constants.{constant_field, rotated_field, shift_of};
 
 /// How far a byte is shifted left that has its highest bit, by at most n.
 fn shift_of(n: u32, c: u32) -> u32
@@ -26,7 +26,7 @@ fn rotated_field(c: u32, k: u32) -> u32
 }
 
 /// The twelve bits that stand for a constant: a byte at one, two or four places, or one that is rotated.
-#[tactic(auto, unfolding(crate::specs::Codes::constant_field))]
+#[tactic(auto, unfolding(crate::specs::Constants::constant_field))]
 pub fn constant_field(c: u32) -> u32
     ensures { result ≡ constant_field c }
 {

@@ -1,22 +1,31 @@
-//! The candidate codes of texts of loads and stores.
+//! The candidate codes of texts of loads and stores: rows T12 to T15.
 
-ghost use Rattle.std.specs.Prelude.{◌≡◌, ◌<◌, ◌^◌, map};
-ghost use Rattle.hm_text32_codes.specs.Codes.{access_code, code_access, code_list, code_of_memory, code_pair, indexed_code, memory_code_in, offset_code};
-ghost use Rattle.hm_text32_codes.specs.Codes.{pair_code};
-ghost use Rattle.hm_text_base.specs.Spans.{span};
-ghost use Rattle.hm_tokens.specs.Tokens.{tok};
+ghost use Rattle.std.specs.Prelude.{◌≡◌, ◌<◌, ◌+◌, ◌-◌, ◌^◌, ◌/◌};
+ghost use Rattle.hm_isa.specs.declared.wide.Indexed.{Indexed};
+ghost use Rattle.hm_isa.specs.declared.wide.Literal.{Literal};
+ghost use Rattle.hm_isa.specs.declared.wide.Offset.{Offset};
+ghost use Rattle.hm_isa.specs.declared.wide.Shifted.{Shifted};
+ghost use Rattle.hm_isa.specs.declared.wide.T12.TheVariants as t12;
+ghost use Rattle.hm_isa.specs.declared.wide.T14.{T14};
+ghost use Rattle.hm_isa.specs.declared.wide.T15.{T15};
+ghost use Rattle.hm_isa.specs.declared.widths.WideRow.TheVariants as wide;
+ghost use Rattle.hm_isa.specs.Code.{code_t12, code_t14};
+ghost use Rattle.hm_isa.specs.Standing.{◌↑◌};
+ghost use Rattle.hm_text32_codes.specs.Asked.{MemoryCodes, access_operands, given, operands_of};
+ghost use Rattle.hm_tokens.specs.Tokens.{comma};
 
-use crate::names::{pair_name, wide_list_name};
-use crate::operands::{Places, read_places, second_bang, value};
-use hm_enc32_memory::{base_of_pair, base_of_wide_access, base_of_wide_list};
-use hm_text_base::span;
-use hm_text_rows::{access_name, braced_bits, operand};
-use hm_tokens::Token;
+use crate::names::{pair_name, stack_name, wide_list_name};
+use crate::operands::Operands;
+use crate::system_codes::code_system;
+use hm_enc32_memory::{base_of_pair, base_of_stack, base_of_wide_access, base_of_wide_list};
+use hm_isa::{AccessName, WideListName};
+use hm_text_rows::access_name;
 
 /// A row T12 with an index.
-fn indexed_code(base: u64, o: &Places) -> u64
+fn indexed_code(base: u64, o: &Operands) -> u64
     requires { base < 2 ^ 40 }
-    ensures { result ≡ indexed_code base o.now }
+    ensures { result ≡ base + 0x0800 + o.now.second ↑ 16 + o.now.first ↑ 12 + o.now.before ↑ 10 + o.now.added ↑ 9
+        + o.now.back ↑ 8 + o.now.third }
 {
     base + 0x0800
         + (u64::from(o.second) << 16)
@@ -27,11 +36,29 @@ fn indexed_code(base: u64, o: &Places) -> u64
         + u64::from(o.third)
 }
 
-/// A row T12 with an offset: at pc, added alone, and else with an index.
-fn offset_code(base: u64, o: &Places) -> u64
+/// A row T12 with a register that is shifted left.
+fn scaled_code(base: u64, o: &Operands) -> u64
     requires { base < 2 ^ 40 }
-    ensures { result ≡ offset_code base o.now }
+    ensures { result ≡ base + o.now.second ↑ 16 + o.now.first ↑ 12 + o.now.fifth ↑ 4 + o.now.third }
 {
+    base + (u64::from(o.second) << 16)
+        + (u64::from(o.first) << 12)
+        + (u64::from(o.fifth) << 4)
+        + u64::from(o.third)
+}
+
+/// A row T12 of this name: with a register, with an offset at pc, with one that is added alone, and else with an index.
+#[tactic(auto, using(crate::proofs::Inverses::offset_base, crate::proofs::Inverses::indexed_base, crate::proofs::Inverses::indexed_use))]
+fn access_code(name: AccessName, o: &Operands) -> u64
+    ensures offset { (i : Offset) → i.name ≡ name → o.now ≡ access_operands (t12.Offset i) → result ≡ code_t12 (t12.Offset i) }
+    ensures indexed { (i : Indexed) → i.name ≡ name → o.now ≡ access_operands (t12.Indexed i) → result ≡ code_t12 (t12.Indexed i) }
+    ensures shifted { (i : Shifted) → i.name ≡ name → o.now ≡ access_operands (t12.Shifted i) → result ≡ code_t12 (t12.Shifted i) }
+    ensures literal { (i : Literal) → i.name ≡ name → o.now ≡ access_operands (t12.Literal i) → result ≡ code_t12 (t12.Literal i) }
+{
+    let base = u64::from(base_of_wide_access(name));
+    if !o.third_is_number {
+        return scaled_code(base, o);
+    }
     let t = u64::from(o.first) << 12;
     let i = u64::from(o.third);
     if o.back == 0 && o.second == 15 {
@@ -43,32 +70,11 @@ fn offset_code(base: u64, o: &Places) -> u64
     indexed_code(base, o)
 }
 
-/// A row T12.
-fn access_code(base: u64, o: &Places) -> u64
-    requires { base < 2 ^ 40 }
-    ensures { result ≡ access_code base o.now }
-{
-    if o.third_is_number {
-        return offset_code(base, o);
-    }
-    base + (u64::from(o.second) << 16)
-        + (u64::from(o.first) << 12)
-        + (u64::from(o.fifth) << 4)
-        + u64::from(o.third)
-}
-
-/// Rows T12.
-fn code_access(mnemonic: &[u8], o: &Places) -> Option<u64>
-    ensures { result ≡ code_access mnemonic.now o.now }
-{
-    let base = u64::from(base_of_wide_access(access_name(mnemonic)?));
-    Some(access_code(base, o))
-}
-
 /// A row T13.
-fn pair_code(base: u64, o: &Places) -> u64
+fn pair_code(base: u64, o: &Operands) -> u64
     requires { base < 2 ^ 40 }
-    ensures { result ≡ pair_code base o.now }
+    ensures { result ≡ base + o.now.before ↑ 24 + o.now.added ↑ 23 + o.now.back ↑ 21 + o.now.third ↑ 16 + o.now.first ↑ 12
+        + o.now.second ↑ 8 + o.now.fourth / 4 }
 {
     base + (u64::from(o.before) << 24)
         + (u64::from(o.added) << 23)
@@ -79,51 +85,46 @@ fn pair_code(base: u64, o: &Places) -> u64
         + u64::from(o.fourth / 4)
 }
 
-/// Rows T13.
-fn code_pair(mnemonic: &[u8], o: &Places) -> Option<u64>
-    ensures { result ≡ code_pair mnemonic.now o.now }
+/// A row T14, by that of its name with no registers.
+fn list_sum(base: u64, o: &Operands) -> u64
+    requires { base < 2 ^ 40 }
+    ensures { result ≡ base + o.now.bang ↑ 21 + o.now.first ↑ 16 + o.now.registers }
 {
-    let base = u64::from(base_of_pair(pair_name(mnemonic)?));
-    Some(pair_code(base, o))
+    base + (u64::from(o.bang) << 21) + (u64::from(o.first) << 16) + u64::from(o.registers)
 }
 
-/// Rows T14.
-fn code_list(mnemonic: &[u8], tokens: &[Token<'_>]) -> Option<u64>
-    ensures { result ≡ code_list mnemonic.now (map tok tokens.now) }
+/// A row T14 of this name.
+fn list_code(name: WideListName, o: &Operands) -> u64
+    ensures { (i : T14) → i.name ≡ name → o.now ≡ operands_of (wide.T14 i) comma → result ≡ code_t14 i }
 {
-    let base = u64::from(base_of_wide_list(wide_list_name(mnemonic)?));
-    let back = u64::from(second_bang(tokens));
-    let n = u64::from(value(operand(tokens, 0)));
-    Some(base + (back << 21) + (n << 16) + u64::from(braced_bits(tokens)))
+    list_sum(u64::from(base_of_wide_list(name)), o)
 }
 
-/// Rows that load and store, by the mnemonic.
-#[tactic(auto, unfolding(crate::specs::Codes::code_of_memory))]
-fn code_of_memory(mnemonic: &[u8], tokens: &[Token<'_>]) -> Option<u64>
-    ensures { result ≡ code_of_memory mnemonic.now (map tok tokens.now) }
+/// A row T15 of the first register and the last, by that of its name with no registers.
+#[tactic(auto, using(crate::proofs::Inverses::stack_count))]
+fn stack_code(base: u64, o: &Operands) -> u64
+    requires { base < 2 ^ 40 }
+    ensures { (i : T15) → o.now ≡ given i.v.value (i.v.value + i.k.value - 1) 0 0 0 → result ≡ base + i.v.value ↑ 12 + i.k.value ↑ 1 }
 {
-    let o = read_places(tokens);
-    if let Some(w) = code_access(mnemonic, &o) {
-        return Some(w);
-    }
-    if let Some(w) = code_pair(mnemonic, &o) {
-        return Some(w);
-    }
-    code_list(mnemonic, tokens)
+    let count = (u64::from(o.second) + 1).saturating_sub(u64::from(o.first));
+    base + (u64::from(o.first) << 12) + (count << 1)
 }
 
-/// The code that tokens of a row that loads or stores ask for.
-pub fn memory_code_in(tokens: &[Token<'_>]) -> Option<u64>
-    ensures { result ≡ memory_code_in (map tok tokens.now) }
+/// Rows T12 to T15, and those of `code_system`.
+pub fn code_memory(mnemonic: &[u8], o: &Operands) -> Option<u64>
+    ensures { MemoryCodes mnemonic.now o.now result }
 {
-    match tokens {
-        [] => None,
-        [first, rest @ ..] => match *first {
-            Token::Word(name) => {
-                let (mnemonic, _suffix) = span(b'.', name);
-                code_of_memory(mnemonic, rest)
-            }
-            Token::Number(_) | Token::Mark(_) => None,
-        },
+    if let Some(name) = access_name(mnemonic) {
+        return Some(access_code(name, o));
     }
+    if let Some(name) = pair_name(mnemonic) {
+        return Some(pair_code(u64::from(base_of_pair(name)), o));
+    }
+    if let Some(name) = wide_list_name(mnemonic) {
+        return Some(list_code(name, o));
+    }
+    if let Some(name) = stack_name(mnemonic) {
+        return Some(stack_code(u64::from(base_of_stack(name)), o));
+    }
+    code_system(mnemonic, o)
 }

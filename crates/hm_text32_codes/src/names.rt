@@ -1,24 +1,40 @@
 //! Names of rows, by their mnemonics.
 
 ghost use Rattle.std.specs.Prelude.{◌≡◌};
-ghost use Rattle.hm_text_rows.specs.Names.{bit_values, named, named_with_bit, sum_names};
-ghost use Rattle.hm_text32_rows.specs.Mnemonics.{accumulate_mnemonic, barrier_mnemonic, bits_mnemonic, carry_mnemonic, data_mnemonic, extract_mnemonic};
-ghost use Rattle.hm_text32_rows.specs.Mnemonics.{half_mnemonic, long_mnemonic, move_mnemonic, operation_mnemonic, pair_mnemonic, saturate_mnemonic};
-ghost use Rattle.hm_text32_rows.specs.Mnemonics.{select_mnemonic, stack_mnemonic, table_mnemonic, test_mnemonic, turn_mnemonic, wide_branch_mnemonic};
-ghost use Rattle.hm_text32_rows.specs.Mnemonics.{wide_list_mnemonic, wide_shift_mnemonic, wide_sum_mnemonic};
-ghost use Rattle.hm_text32_codes.specs.Names.{accumulate_names, barrier_names, bits_names, data_names, extract_names, half_names, long_names};
-ghost use Rattle.hm_text32_codes.specs.Names.{move_names, operation_names, pair_names, saturate_names, select_names, shift_numbers, stack_names};
-ghost use Rattle.hm_text32_codes.specs.Names.{table_names, test_names, wide_branch_names, wide_list_names, wide_shift_names};
+ghost use Rattle.hm_text_rows.specs.Names.{named, named_with_bit, sum_names};
+ghost use Rattle.hm_text32_rows.specs.Mnemonics.{accumulate_mnemonic, barrier_mnemonic, bits_mnemonic, data_mnemonic, extract_mnemonic};
+ghost use Rattle.hm_text32_rows.specs.Mnemonics.{half_mnemonic, long_mnemonic, operation_mnemonic, pair_mnemonic, saturate_mnemonic};
+ghost use Rattle.hm_text32_rows.specs.Mnemonics.{select_mnemonic, stack_mnemonic, table_mnemonic, wide_branch_mnemonic};
+ghost use Rattle.hm_text32_rows.specs.Mnemonics.{wide_list_mnemonic, wide_sum_mnemonic};
+ghost use Rattle.hm_text32_codes.specs.Names.{accumulate_names, barrier_names, bits_names, data_names, extract_names, half_names};
+ghost use Rattle.hm_text32_codes.specs.Names.{kind_in, kind_mnemonic, long_names, move_kinds};
+ghost use Rattle.hm_text32_codes.specs.Names.{operation_names, pair_names, saturate_names, select_names};
+ghost use Rattle.hm_text32_codes.specs.Names.{stack_names, table_names, turn_kinds, wide_branch_names, wide_list_names};
 
 use hm_isa::{
     AccumulateName, BarrierName, BitsName, DataName, ExtractName, HalfName, LongProductName,
     OperationName, PairName, SaturateName, SelectName, StackName, SumName, TableName,
-    WideBranchName, WideListName, WideShiftName,
+    WideBranchName, WideListName,
 };
 use hm_text_rows::named;
 
+/// What a mnemonic of rows T1, T2 and T8 says; a number 1 behind a name or alone says that the flags tell the result.
+#[derive(Clone, Copy)]
+pub enum DataKind {
+    /// A register for the result and a first one.
+    Three(DataName, u32),
+    /// A test, with no register for the result.
+    Test(DataName),
+    /// `mov` or `mvn`, with no first register.
+    Move(DataName, u32),
+    /// A shift through the carry.
+    Carry(u32),
+    /// A shift by a constant or by a register: 0 to 3 are `lsl`, `lsr`, `asr` and `ror`.
+    Turn(u32, u32),
+}
+
 /// The name of a row T1 or T2 of two registers or more, and 1 where the mnemonic ends in `s`.
-pub fn data_name(mnemonic: &[u8]) -> Option<(DataName, u8)>
+fn data_name(mnemonic: &[u8]) -> Option<(DataName, u32)>
     ensures { result ≡ named_with_bit data_mnemonic data_names mnemonic.now }
 {
     let names = &[
@@ -46,55 +62,53 @@ pub fn data_name(mnemonic: &[u8]) -> Option<(DataName, u8)>
     named(names, mnemonic)
 }
 
-/// The name of a row T1 or T2 that is a test.
-pub fn test_name(mnemonic: &[u8]) -> Option<DataName>
-    ensures { result ≡ named test_mnemonic test_names mnemonic.now }
+/// What a mnemonic of a test, of `mov` or of `mvn` says.
+fn move_kind(mnemonic: &[u8]) -> Option<DataKind>
+    ensures { result ≡ named kind_mnemonic move_kinds mnemonic.now }
 {
-    let names = &[
-        (DataName::And, "tst"),
-        (DataName::Eor, "teq"),
-        (DataName::Add, "cmn"),
-        (DataName::Sub, "cmp"),
+    let kinds = &[
+        (DataKind::Test(DataName::And), "tst"),
+        (DataKind::Test(DataName::Eor), "teq"),
+        (DataKind::Test(DataName::Add), "cmn"),
+        (DataKind::Test(DataName::Sub), "cmp"),
+        (DataKind::Move(DataName::Orr, 0), "mov"),
+        (DataKind::Move(DataName::Orr, 1), "movs"),
+        (DataKind::Move(DataName::Orn, 0), "mvn"),
+        (DataKind::Move(DataName::Orn, 1), "mvns"),
     ];
-    named(names, mnemonic)
+    named(kinds, mnemonic)
 }
 
-/// The name of a row T1 or T2 with no first register, and 1 where the mnemonic ends in `s`.
-pub fn move_name(mnemonic: &[u8]) -> Option<(DataName, u8)>
-    ensures { result ≡ named_with_bit move_mnemonic move_names mnemonic.now }
+/// What the mnemonic of a shift says.
+fn turn_kind(mnemonic: &[u8]) -> Option<DataKind>
+    ensures { result ≡ named kind_mnemonic turn_kinds mnemonic.now }
 {
-    let names = &[
-        ((DataName::Orr, 0), "mov"),
-        ((DataName::Orr, 1), "movs"),
-        ((DataName::Orn, 0), "mvn"),
-        ((DataName::Orn, 1), "mvns"),
+    let kinds = &[
+        (DataKind::Carry(0), "rrx"),
+        (DataKind::Carry(1), "rrxs"),
+        (DataKind::Turn(0, 0), "lsl"),
+        (DataKind::Turn(0, 1), "lsls"),
+        (DataKind::Turn(1, 0), "lsr"),
+        (DataKind::Turn(1, 1), "lsrs"),
+        (DataKind::Turn(2, 0), "asr"),
+        (DataKind::Turn(2, 1), "asrs"),
+        (DataKind::Turn(3, 0), "ror"),
+        (DataKind::Turn(3, 1), "rors"),
     ];
-    named(names, mnemonic)
+    named(kinds, mnemonic)
 }
 
-/// The number of the shift of a row T2 that shifts by a constant, and 1 where the mnemonic ends in `s`.
-pub fn turn_number(mnemonic: &[u8]) -> Option<(u32, u8)>
-    ensures { result ≡ named_with_bit turn_mnemonic shift_numbers mnemonic.now }
+/// What a mnemonic of rows T1, T2 and T8 says.
+pub fn data_kind(mnemonic: &[u8]) -> Option<DataKind>
+    ensures { result ≡ kind_in mnemonic.now }
 {
-    let numbers = &[
-        ((0, 0), "lsl"),
-        ((0, 1), "lsls"),
-        ((1, 0), "lsr"),
-        ((1, 1), "lsrs"),
-        ((2, 0), "asr"),
-        ((2, 1), "asrs"),
-        ((3, 0), "ror"),
-        ((3, 1), "rors"),
-    ];
-    named(numbers, mnemonic)
-}
-
-/// Of a shift through the carry, a row T2: 1 where the mnemonic ends in `s`.
-pub fn carry_flag(mnemonic: &[u8]) -> Option<u8>
-    ensures { result ≡ named carry_mnemonic bit_values mnemonic.now }
-{
-    let flags = &[(0, "rrx"), (1, "rrxs")];
-    named(flags, mnemonic)
+    if let Some((name, s)) = data_name(mnemonic) {
+        return Some(DataKind::Three(name, s));
+    }
+    if let Some(kind) = move_kind(mnemonic) {
+        return Some(kind);
+    }
+    turn_kind(mnemonic)
 }
 
 /// The name of a row T3.
@@ -126,23 +140,6 @@ pub fn extract_name(mnemonic: &[u8]) -> Option<ExtractName>
     ensures { result ≡ named extract_mnemonic extract_names mnemonic.now }
 {
     let names = &[(ExtractName::Sbfx, "sbfx"), (ExtractName::Ubfx, "ubfx")];
-    named(names, mnemonic)
-}
-
-/// The name of a row T8, and 1 where the mnemonic ends in `s`.
-pub fn wide_shift_name(mnemonic: &[u8]) -> Option<(WideShiftName, u8)>
-    ensures { result ≡ named_with_bit wide_shift_mnemonic wide_shift_names mnemonic.now }
-{
-    let names = &[
-        ((WideShiftName::Lsl, 0), "lsl"),
-        ((WideShiftName::Lsl, 1), "lsls"),
-        ((WideShiftName::Lsr, 0), "lsr"),
-        ((WideShiftName::Lsr, 1), "lsrs"),
-        ((WideShiftName::Asr, 0), "asr"),
-        ((WideShiftName::Asr, 1), "asrs"),
-        ((WideShiftName::Ror, 0), "ror"),
-        ((WideShiftName::Ror, 1), "rors"),
-    ];
     named(names, mnemonic)
 }
 

@@ -1,12 +1,12 @@
 //! What a text gives numbers for, read without a refusal, since the row that is found is asked for its text.
 
-ghost use Rattle.std.specs.Prelude.{◌≡◌, ◌<◌, map};
-ghost use Rattle.hm_text32_codes.specs.Operands.{other_value, read_operands, read_places, second_bang, shift_in, special_in, value, word_value};
+ghost use Rattle.std.specs.Prelude.{◌≡◌, map};
+ghost use Rattle.hm_text32_codes.specs.Operands.{other_value, read_operands, second_bang, shift_in, special_in, value, word_value};
 ghost use Rattle.hm_tokens.specs.Tokens.{tok};
 
 use hm_text_rows::{
-    added, back_in, before, first_of, is_number, is_the_mark, is_vector, named, operand, size_of,
-    value_by,
+    added, back_in, before, braced_bits, first_of, is_number, is_the_mark, is_vector, named,
+    operand, size_of, value_by,
 };
 use hm_tokens::{Mark, Token, read_condition, read_double, read_register, read_vector};
 
@@ -15,6 +15,8 @@ use hm_tokens::{Mark, Token, read_condition, read_double, read_register, read_ve
 pub struct Operands {
     /// Whether there are no operands.
     pub is_bare: bool,
+    /// Whether there is one token alone.
+    pub is_single: bool,
     /// The size of the elements: 0, 1, 2 and 3 are 8, 16, 32 and 64 bits.
     pub size: u32,
     /// Whether the first operand is a vector register.
@@ -28,6 +30,16 @@ pub struct Operands {
     pub third: u32,
     pub fourth: u32,
     pub fifth: u32,
+    /// 0 where an offset is taken away: a minus sign stands behind `#`.
+    pub added: u32,
+    /// 0 where an offset stands behind the brackets.
+    pub before: u32,
+    /// 1 where an address is written back.
+    pub back: u32,
+    /// 1 where `!` stands behind the first operand.
+    pub bang: u32,
+    /// The registers behind a brace: bit k is register k.
+    pub registers: u32,
 }
 
 /// The number of a shift; that through the carry is a rotation by 0.
@@ -95,69 +107,15 @@ fn word_value(name: &[u8]) -> u32
 }
 
 /// The number that a token stands for.
-pub fn value(token: Token<'_>) -> u32
+fn value(token: Token<'_>) -> u32
     ensures { result ≡ value (tok token.entry) }
 {
     value_by(word_value, token)
 }
 
-/// What stands behind a mnemonic: its suffix, with the point, and the other tokens.
-pub fn read_operands(suffix: &[u8], tokens: &[Token<'_>]) -> Operands
-    ensures { result ≡ read_operands suffix.now (map tok tokens.now) }
-{
-    Operands {
-        is_bare: tokens.is_empty(),
-        size: size_of(suffix),
-        is_vector: is_vector(operand(tokens, 0)),
-        second_is_number: is_number(operand(tokens, 1)),
-        third_is_number: is_number(operand(tokens, 2)),
-        first: value(operand(tokens, 0)),
-        second: value(operand(tokens, 1)),
-        third: value(operand(tokens, 2)),
-        fourth: value(operand(tokens, 3)),
-        fifth: value(operand(tokens, 4)),
-    }
-}
-
-/// What stands behind the mnemonic of a row that loads or stores, as numbers.
-#[derive(Clone, Copy)]
-pub struct Places {
-    /// Whether the third operand is a number.
-    pub third_is_number: bool,
-    pub first: u32,
-    pub second: u32,
-    pub third: u32,
-    pub fourth: u32,
-    pub fifth: u32,
-    /// 0 where an offset is taken away: a minus sign stands behind `#`.
-    pub added: u32,
-    /// 0 where an offset stands behind the brackets.
-    pub before: u32,
-    /// 1 where an address is written back.
-    pub back: u32,
-}
-
-/// What stands behind the mnemonic of a row that loads or stores.
-pub fn read_places(tokens: &[Token<'_>]) -> Places
-    ensures { result ≡ read_places (map tok tokens.now) }
-{
-    Places {
-        third_is_number: is_number(operand(tokens, 2)),
-        first: value(operand(tokens, 0)),
-        second: value(operand(tokens, 1)),
-        third: value(operand(tokens, 2)),
-        fourth: value(operand(tokens, 3)),
-        fifth: value(operand(tokens, 4)),
-        added: added(tokens),
-        before: before(tokens),
-        back: back_in(tokens),
-    }
-}
-
 /// 1 where `!` stands behind the first token.
-pub fn second_bang(tokens: &[Token<'_>]) -> u32
-    ensures value { result ≡ second_bang (map tok tokens.now) }
-    ensures bit { result < 2 }
+fn second_bang(tokens: &[Token<'_>]) -> u32
+    ensures { result ≡ second_bang (map tok tokens.now) }
 {
     match tokens {
         [] => 0,
@@ -168,5 +126,29 @@ pub fn second_bang(tokens: &[Token<'_>]) -> u32
                 0
             }
         }
+    }
+}
+
+/// What stands behind a mnemonic: its suffix, with the point, and the other tokens.
+pub fn read_operands(suffix: &[u8], tokens: &[Token<'_>]) -> Operands
+    ensures { result ≡ read_operands suffix.now (map tok tokens.now) }
+{
+    Operands {
+        is_bare: tokens.is_empty(),
+        is_single: tokens.len() == 1,
+        size: size_of(suffix),
+        is_vector: is_vector(operand(tokens, 0)),
+        second_is_number: is_number(operand(tokens, 1)),
+        third_is_number: is_number(operand(tokens, 2)),
+        first: value(operand(tokens, 0)),
+        second: value(operand(tokens, 1)),
+        third: value(operand(tokens, 2)),
+        fourth: value(operand(tokens, 3)),
+        fifth: value(operand(tokens, 4)),
+        added: added(tokens),
+        before: before(tokens),
+        back: back_in(tokens),
+        bang: second_bang(tokens),
+        registers: braced_bits(tokens),
     }
 }

@@ -28,6 +28,13 @@ unfoldable pub size_of : List ℕ → ℕ
 size_of suffix = size_by (get_or suffix (length suffix - 1) 0)
 
 -- TOKENS
+-- the first of tokens, where that is a word, and else none
+abbrev pub first_word : List Tok → List ℕ
+first_word [] = []
+first_word (word w ∷ ts) = w
+first_word (number n ∷ ts) = []
+first_word (mark c ∷ ts) = []
+
 -- whether a token names a vector register
 abbrev pub is_vector : Tok → Bool
 is_vector (word w) = is_vector_name w

@@ -6,13 +6,6 @@ ghost use Rattle.hm_tokens.specs.Tokens.{tok};
 
 use hm_tokens::{Token, is_label_name};
 
-/// What a text that some row has says of its label.
-#[derive(Clone, Copy, Debug)]
-pub struct Shape<'a> {
-    /// The label operand, which is the last token: a number or a name. None where the row has no label.
-    pub label: Option<Token<'a>>,
-}
-
 /// Whether a token may stand where a row has a label.
 pub fn is_label(token: Token<'_>) -> bool
     ensures is { IsTrue result ↔ IsLabel (tok token.entry) }

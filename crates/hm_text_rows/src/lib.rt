@@ -10,13 +10,13 @@ mod operands;
 mod shapes;
 
 pub use addresses::{Index, back, indexed, inside, open, scaled};
-pub use labels::{Shape, behind, distance, is_label, split_last};
+pub use labels::{behind, distance, is_label, split_last};
 pub use lists::{is_listed, with_list};
 pub use mnemonics::{access_mnemonic, element_suffix, extend_mnemonic};
 pub use names::{access_name, extend_name, named};
 pub use operands::{
-    added, back_in, before, braced_bits, branch_condition_in, first_of, is, is_number, is_the_mark,
-    is_vector, operand, size_of, token_behind, value_by,
+    added, back_in, before, braced_bits, branch_condition_in, first_of, first_word, is, is_number,
+    is_the_mark, is_vector, operand, size_of, token_behind, value_by,
 };
 pub use shapes::{
     alone, and, and_constant, and_shift, and_turn, first, four, marked, one, or_zero, q, r, three,

@@ -1,8 +1,8 @@
 //! What a text gives numbers for, read without a refusal, since the row that is found is asked for its text.
 
 ghost use Rattle.std.specs.Prelude.{◌≡◌, ◌≤◌, ℕ, List, bytes_eq, map};
-ghost use Rattle.hm_text_rows.specs.Operands.{added, back_in, before, bit_in, bits_of, braced, branch_condition_in, first_of, is_number, is_vector};
-ghost use Rattle.hm_text_rows.specs.Operands.{is_vector_name, operand, size_of, token_behind, token_bit, value_by};
+ghost use Rattle.hm_text_rows.specs.Operands.{added, back_in, before, bit_in, bits_of, braced, branch_condition_in, first_of, first_word, is_number};
+ghost use Rattle.hm_text_rows.specs.Operands.{is_vector, is_vector_name, operand, size_of, token_behind, token_bit, value_by};
 ghost use Rattle.hm_tokens.specs.Tokens.{is_the_mark, tok};
 
 use hm_tokens::{Mark, Token, read_condition, read_register, read_vector};
@@ -111,6 +111,16 @@ pub fn is_the_mark(token: Token<'_>, mark: Mark) -> bool
     match token {
         Token::Mark(which) => which == mark,
         Token::Word(_) | Token::Number(_) => false,
+    }
+}
+
+/// The first of tokens, where that is a word, and else none.
+pub fn first_word<'a>(tokens: &[Token<'a>]) -> &'a [u8]
+    ensures value { result.now ≡ first_word (map tok tokens.now) }
+{
+    match tokens {
+        [Token::Word(name), ..] => name,
+        _ => b"",
     }
 }
 

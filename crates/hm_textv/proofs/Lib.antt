@@ -1,12 +1,3 @@
-pub mod Endings
-pub mod Forms
-pub mod Addresses
-pub mod Pairs
-pub mod Ones
-pub mod Constants
-pub mod Sums
-pub mod Stores
-pub mod Others
 pub mod Laws
 pub mod Fits
 pub mod Parsing

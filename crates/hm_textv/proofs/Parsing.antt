@@ -1,4 +1,4 @@
--- Reading a text: a row that has its tokens is the row of the code that they ask for.
+-- Reading a text: a row that has its tokens is the row of the code that they are given.
 use Rattle.std.proofs.Common.{◌≡◌, ℕ, ◌<◌, ◌≤◌, Bool, true, false, List, length, Option, Some, None, refl, sym, subst, ap, ◌∙◌, inl, inr, arith}
 use Rattle.std.specs.Prelude.{◌↔◌, IfSome, IsTrue}
 use Rattle.std.proofs.lemmas.Bool.{false≢true}
@@ -7,34 +7,34 @@ use Rattle.hm_isa.specs.Code.{vector_code}
 use Rattle.hm_text_base.proofs.Steps.{some_is}
 use Rattle.hm_tokens.specs.Lines.{IsLineOf}
 use Rattle.hm_tokens.specs.Tokens.{Tok}
-use Rattle.hm_textv_codes.specs.Codes.{code_in}
+use Rattle.hm_textv_codes.specs.Asked.{IsCodeIn}
+use Rattle.hm_textv_codes.proofs.Rows.{text_law}
 use Rattle.hm_textv_rows.specs.Rows.{HasTokens, IsTextOf, other_tokens, tokens_of}
 use Rattle.hm_textv.proofs.Fits.{code_below}
-use Rattle.hm_textv.proofs.Laws.{answers_law}
 
-the_code : (ts : List Tok) (w : ℕ) → code_in ts ≡ Some w → (v : Vector) → HasTokens v ts → vector_code v ≡ w
-the_code ts w e v has = some_is (vector_code v) w (sym (answers_law v ts has).asks ∙ e)
+the_code : (ts : List Tok) (w : ℕ) → IsCodeIn ts (Some w) → (v : Vector) → HasTokens v ts → vector_code v ≡ w
+the_code ts w given v has = some_is (vector_code v) w (sym (given v has))
 
-pub no_code : (ts : List Tok) → code_in ts ≡ None → (v : Vector) → HasTokens v ts → ⊥
-no_code ts e v has = let a = (answers_law v ts has).asks in let f = sym a ∙ e in cc
+pub no_code : (ts : List Tok) → IsCodeIn ts None → (v : Vector) → HasTokens v ts → ⊥
+no_code ts given v has = let f = given v has in cc
 
-pub too_large : (ts : List Tok) (w : ℕ) → code_in ts ≡ Some w → 0xffff_ffff < w → (v : Vector) → HasTokens v ts → ⊥
-too_large ts w e lt v has = let is = the_code ts w e v has in let below = code_below v in omega arith
+pub too_large : (ts : List Tok) (w : ℕ) → IsCodeIn ts (Some w) → 0xffff_ffff < w → (v : Vector) → HasTokens v ts → ⊥
+too_large ts w given lt v has = let is = the_code ts w given v has in let below = code_below v in omega arith
 
-pub no_row : (ts : List Tok) (w : ℕ) → code_in ts ≡ Some w → ((v : Vector) → vector_code v ≡ w → ⊥) → (v : Vector) → HasTokens v ts → ⊥
-no_row ts w e none v has = none v (the_code ts w e v has)
+pub no_row : (ts : List Tok) (w : ℕ) → IsCodeIn ts (Some w) → ((v : Vector) → vector_code v ≡ w → ⊥) → (v : Vector) → HasTokens v ts → ⊥
+no_row ts w given none v has = none v (the_code ts w given v has)
 
 abbrev one : Vector → Option Vector
 one v = Some v
 
-pub the_row : (ts : List Tok) (w : ℕ) (u : Vector) → code_in ts ≡ Some w → ((v : Vector) → (one u ≡ one v) ↔ (vector_code v ≡ w)) → (v : Vector)
+pub the_row : (ts : List Tok) (w : ℕ) (u : Vector) → IsCodeIn ts (Some w) → ((v : Vector) → (one u ≡ one v) ↔ (vector_code v ≡ w)) → (v : Vector)
     → HasTokens v ts → one u ≡ one v
-the_row ts w u e exact v has = (exact v).1 (the_code ts w e v has)
+the_row ts w u given exact v has = (exact v).1 (the_code ts w given v has)
 
-pub other_row : (ts : List Tok) (w : ℕ) (u : Vector) → code_in ts ≡ Some w → ((v : Vector) → (one u ≡ one v) ↔ (vector_code v ≡ w)) → (HasTokens u ts → ⊥)
+pub other_row : (ts : List Tok) (w : ℕ) (u : Vector) → IsCodeIn ts (Some w) → ((v : Vector) → (one u ≡ one v) ↔ (vector_code v ≡ w)) → (HasTokens u ts → ⊥)
     → (v : Vector) → HasTokens v ts → ⊥
-other_row ts w u e exact not v has =
-    not (subst (λ (x : Vector). HasTokens x ts) (sym (some_is u v (the_row ts w u e exact v has))) has)
+other_row ts w u given exact not v has =
+    not (subst (λ (x : Vector). HasTokens x ts) (sym (some_is u v (the_row ts w u given exact v has))) has)
 
 -- AND A WHOLE TEXT
 abbrev no_tokens : Option (List Tok)
@@ -50,11 +50,11 @@ text_found text ts None line has = tt
 pub text_only : (text : List ℕ) (ts : List Tok) (r : Option Vector) → ((us : List Tok) → IsLineOf text us → length us ≤ 40 → these ts ≡ these us)
     → ((v : Vector) → HasTokens v ts → r ≡ Some v) → (v : Vector) → IsTextOf text v → r ≡ Some v
 text_only text ts r line row v is =
-    let e = some_is ts is.0 (line is.0 is.1 (answers_law v is.0 is.2).prints.few) in
+    let e = some_is ts is.0 (line is.0 is.1 (text_law v is.0 is.2).prints.few) in
     row v (subst (λ (us : List Tok). HasTokens v us) (sym e) is.2)
 
 pub text_none : (text : List ℕ) → ((us : List Tok) → IsLineOf text us → length us ≤ 40 → no_tokens ≡ these us) → (v : Vector) → IsTextOf text v → ⊥
-text_none text line v is = let e = line is.0 is.1 (answers_law v is.0 is.2).prints.few in cc
+text_none text line v is = let e = line is.0 is.1 (text_law v is.0 is.2).prints.few in cc
 
 -- WHETHER TOKENS ARE A ROW'S
 pub first_has : (v : Vector) (ts xs : List Tok) → xs ≡ tokens_of v → ts ≡ xs → IsTrue true ↔ HasTokens v ts

@@ -29,7 +29,7 @@ pub fn print_v(v: &Vector) -> ArrayString<96>
 /// The last code of 32 bits.
 const LAST: u64 = 0xffff_ffff;
 
-/// The row that has these tokens: that of the code that they ask for, if it has them.
+/// The row that has these tokens: that of the code that they are given, if it has them.
 fn row_of(tokens: &[Token<'_>]) -> Option<Vector>
     ensures found { IfSome result (λ v. HasTokens v (map tok tokens.now)) }
     ensures only { (v : Vector) → HasTokens v (map tok tokens.now) → result ≡ Some v }

@@ -1,3 +1,3 @@
 pub mod Operands
 pub mod Names
-pub mod Codes
+pub mod Asked

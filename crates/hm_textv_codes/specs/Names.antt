@@ -30,7 +30,7 @@ use Rattle.hm_isa.specs.declared.vectors.OffsetsName.{OffsetsName}
 use Rattle.hm_isa.specs.declared.vectors.OffsetsName.TheVariants as offsets
 use Rattle.hm_isa.specs.declared.vectors.ExtremeName.{ExtremeName}
 use Rattle.hm_isa.specs.declared.vectors.ExtremeName.TheVariants as extreme
-use Rattle.hm_text_rows.specs.Names.{bit_values, block_masks, named, named_with_bit}
+use Rattle.hm_text_rows.specs.Names.{block_masks, named, named_with_bit}
 use Rattle.hm_text_rows.specs.Shapes.{either}
 use Rattle.hm_textv_rows.specs.Mnemonics.{access_mnemonic, constant_merge_mnemonic, constant_move_mnemonic, narrow_mnemonic, pair_mnemonic, quad_mnemonic}
 
@@ -97,9 +97,14 @@ extreme_names = extreme.Max ∷ extreme.Min ∷ []
 abbrev pub masks : List ℕ
 masks = 0 ∷ block_masks
 
--- V15: VMOV, VMVN, VORR and VBIC as 0 to 3: bit 0 is 1 for VMVN and VBIC, and bit 1 is 1 where the immediate is merged
+-- V15: the mnemonics of 0 to 3, VMOV, VMVN, VORR and VBIC: bit 0 is 1 for VMVN and VBIC, and bit 1 is 1 where the immediate is merged
+-- (DDI0553, "VMOV (immediate)", "VMVN (immediate)", "VORR (immediate)" and "VBIC (immediate)")
+abbrev pub constant_mnemonic : ℕ → List ℕ
+constant_mnemonic k = either (k / 2) (constant_move_mnemonic (k % 2)) (constant_merge_mnemonic (k % 2))
+
+-- V15: VMOV, VMVN, VORR and VBIC as 0 to 3, by the mnemonic
 abbrev pub constant_in : List ℕ → Option ℕ
-constant_in s = named (λ (k : ℕ). either (k / 2) (constant_move_mnemonic (k % 2)) (constant_merge_mnemonic (k % 2))) (0 ∷ 1 ∷ 2 ∷ 3 ∷ []) s
+constant_in s = named constant_mnemonic (0 ∷ 1 ∷ 2 ∷ 3 ∷ []) s
 
 -- V16: the name and the part of VMOVN, VQMOVUN and VQMOVN, by the mnemonic; VQMOVN of unsigned elements differs in its sign alone
 abbrev pub narrow_in : List ℕ → Option (NarrowName × ℕ)
@@ -109,12 +114,13 @@ narrow_in s = named_with_bit narrow_mnemonic (narrow_.Plain ∷ narrow_.ToUnsign
 abbrev pub access_in : List ℕ → Option (ℕ × ℕ)
 access_in s = named (λ (p : ℕ × ℕ). access_mnemonic p.0 p.1) ((0, 0) ∷ (0, 1) ∷ (0, 2) ∷ (1, 0) ∷ (1, 1) ∷ (1, 2) ∷ []) s
 
--- V28: 1 for a load, and the part of VST20, VST21, VLD20 and VLD21, by the mnemonic
-abbrev pub pair_in : List ℕ → Option (ℕ × ℕ)
-pair_in s = named_with_bit pair_mnemonic bit_values s
+-- V28: the mnemonic of part p of two registers where f is 0, else of four: of VST2 and VST4 where l is 0, else of VLD2 and VLD4
+-- (DDI0553, "VLD2", "VLD4", "VST2" and "VST4")
+abbrev pub interleaved_mnemonic : ℕ → ℕ → ℕ → List ℕ
+interleaved_mnemonic f l p = either f (pair_mnemonic l p) (quad_mnemonic l p)
 
--- V28: 1 for a load, and the part of VST40 to VST43 and VLD40 to VLD43, by the mnemonic
-abbrev pub quad_in : List ℕ → Option (ℕ × ℕ)
-quad_in s =
-    named (λ (p : ℕ × ℕ). quad_mnemonic p.0 p.1)
-    ((0, 0) ∷ (0, 1) ∷ (0, 2) ∷ (0, 3) ∷ (1, 0) ∷ (1, 1) ∷ (1, 2) ∷ (1, 3) ∷ []) s
+-- V28: 1 for four registers, 1 for a load, and the part of VST20, VST21, VLD20, VLD21, VST40 to VST43 and VLD40 to VLD43, by the mnemonic
+abbrev pub interleaved_in : List ℕ → Option (ℕ × ℕ × ℕ)
+interleaved_in s =
+    named (λ (x : ℕ × ℕ × ℕ). interleaved_mnemonic x.0 x.1 x.2)
+    ((0, 0, 0) ∷ (0, 0, 1) ∷ (0, 1, 0) ∷ (0, 1, 1) ∷ (1, 0, 0) ∷ (1, 0, 1) ∷ (1, 0, 2) ∷ (1, 0, 3) ∷ (1, 1, 0) ∷ (1, 1, 1) ∷ (1, 1, 2) ∷ (1, 1, 3) ∷ []) s

@@ -1,11 +1,14 @@
 -- What a text gives numbers for, read without a refusal, since the row that is found is asked for its text.
-use Rattle.std.specs.Prelude.{ℕ, List, [], ◌∷◌, Option, length, get_or, codes, bytes_eq, ◌==◌, if◌then◌else◌, unwrap_or}
+use Rattle.std.specs.Prelude.{ℕ, Bool, true, false, List, [], ◌∷◌, Option, length, get_or, codes, bytes_eq, ◌==◌, if◌then◌else◌, unwrap_or}
+use Rattle.hm_text_base.specs.Spans.{span}
 use Rattle.hm_tokens.specs.declared.marks.Mark.TheVariants as marks
 use Rattle.hm_tokens.specs.Names.{register_in, vector_in}
-use Rattle.hm_tokens.specs.Tokens.{Tok}
+use Rattle.hm_tokens.specs.Tokens.{Tok, word, number, mark, point}
 use Rattle.hm_text_rows.specs.Names.{named}
-use Rattle.hm_text_rows.specs.Operands.{added, back_in, before, is_vector, operand, size_of, token_behind, value_by}
+use Rattle.hm_text_rows.specs.Operands.{added, back_in, before, first_word, is_vector_name, operand, size_of, token_behind, value_by}
 use Rattle.hm_textv_rows.specs.Mnemonics.{compare_condition}
+use Rattle.hm_textv_codes.specs.declared.operands.Kind.{Kind}
+use Rattle.hm_textv_codes.specs.declared.operands.Kind.TheVariants as kinds
 use Rattle.hm_textv_codes.specs.declared.operands.Operands.{Operands}
 
 -- V20: the number of the condition that a word names, 0 to 7 for eq, ne, cs, hi, ge, lt, gt and le; None where it names none (DDI0553, "VCMP")
@@ -28,6 +31,17 @@ word_value w = unwrap_or (vector_in w) (unwrap_or (register_in w) (unwrap_or (co
 abbrev pub value : Tok → ℕ
 value = value_by word_value
 
+-- what a word is as an operand, where this says whether it names a vector
+abbrev pub kind_by : Bool → Kind
+kind_by true = kinds.Vector
+kind_by false = kinds.Word
+
+-- what a token is as an operand: the name of a vector, another word, or a number; and a mark where the operand is missing
+abbrev pub kind_of : Tok → Kind
+kind_of (word w) = kind_by (is_vector_name w)
+kind_of (number n) = kinds.Number
+kind_of (mark c) = kinds.Missing
+
 -- `u`, which stands behind the point where the elements are unsigned
 abbrev pub unsigned_letter : ℕ
 unsigned_letter = 117
@@ -36,20 +50,25 @@ unsigned_letter = 117
 unfoldable pub sign_of : List ℕ → ℕ
 sign_of suffix = if get_or suffix 1 0 == unsigned_letter then 1 else 0
 
--- what stands behind a mnemonic, as numbers: the sign and the size of the elements, the operands, and how the address is written
+-- what tokens stand for as numbers, the first being a mnemonic with this suffix: the sign and the size of the elements, the operands
+-- behind the mnemonic and what the third is, how the address is written, and what its base is: a number where there is no address
 abbrev pub read_operands : List ℕ → List Tok → Operands
 read_operands suffix ts = record {
   is_bare = length suffix == 0;
   sign = sign_of suffix;
   size = size_of suffix;
-  is_vector = is_vector (operand 2 ts);
-  first = value (operand 0 ts);
-  second = value (operand 1 ts);
-  third = value (operand 2 ts);
-  fourth = value (operand 3 ts);
-  fifth = value (operand 4 ts);
+  third_kind = kind_of (operand 3 ts);
+  first = value (operand 1 ts);
+  second = value (operand 2 ts);
+  third = value (operand 3 ts);
+  fourth = value (operand 4 ts);
+  fifth = value (operand 5 ts);
   added = added ts;
   before = before ts;
   back = back_in ts;
-  is_at_vector = is_vector (token_behind marks.OpenBracket ts);
+  base_kind = kind_of (token_behind marks.OpenBracket ts);
 }
+
+-- the mnemonic of tokens, which is their first word up to its point, and their operands
+abbrev pub read_text : List Tok → List ℕ × Operands
+read_text ts = ((span point (first_word ts)).0, read_operands (span point (first_word ts)).1 ts)

@@ -1,4 +1,4 @@
-//! The candidate code of a text of a vector row: whether the row of this code has the text is asked later.
+//! The candidate code of a text of a vector row; that of each row's own texts is its code.
 #![tactic(auto)]
 
 mod access;

@@ -3,14 +3,15 @@
 ghost use Rattle.std.specs.Prelude.{◌≡◌, ◌<◌, IfSome};
 ghost use Rattle.std.specs.Option.{option_or};
 ghost use Rattle.hm_text_rows.specs.Names.{bit_values, named};
+ghost use Rattle.hm_text_rows.specs.Shapes.{either};
 ghost use Rattle.hm_textv_rows.specs.Mnemonics.{add_mnemonic, bitwise_mnemonic, block_mnemonic, block_word, carry_mnemonic, compare_word};
 ghost use Rattle.hm_textv_rows.specs.Mnemonics.{complex_sum_mnemonic, constant_shift_mnemonic, dot_mnemonic, doubling_mnemonic, extreme_mnemonic};
-ghost use Rattle.hm_textv_rows.specs.Mnemonics.{high_mnemonic, long_dot_mnemonic, long_move_mnemonic, long_product_mnemonic, long_shift_mnemonic};
-ghost use Rattle.hm_textv_rows.specs.Mnemonics.{long_sum_mnemonic, offsets_mnemonic, one_mnemonic, other_dot_mnemonic, reverse_mnemonic};
-ghost use Rattle.hm_textv_rows.specs.Mnemonics.{scalar_mnemonic, signed_mnemonic, sum_mnemonic, vector_shift_mnemonic, wrapped_mnemonic};
+ghost use Rattle.hm_textv_rows.specs.Mnemonics.{high_mnemonic, long_move_mnemonic, long_shift_mnemonic};
+ghost use Rattle.hm_textv_rows.specs.Mnemonics.{offsets_mnemonic, one_mnemonic, other_dot_mnemonic, reverse_mnemonic};
+ghost use Rattle.hm_textv_rows.specs.Mnemonics.{scalar_mnemonic, signed_mnemonic, vector_shift_mnemonic, wrapped_mnemonic};
 ghost use Rattle.hm_textv_codes.specs.Names.{access_in, add_names, bitwise_names, carry_names, complex_sum_names, constant_in};
-ghost use Rattle.hm_textv_codes.specs.Names.{constant_shift_names, doubling_names, extreme_names, high_names, masks, narrow_in, offsets_names};
-ghost use Rattle.hm_textv_codes.specs.Names.{one_names, pair_in, quad_in, reverse_names, scalar_names, signed_names, vector_shift_names};
+ghost use Rattle.hm_textv_codes.specs.Names.{constant_shift_names, doubling_names, extreme_names, high_names, interleaved_in, masks, narrow_in};
+ghost use Rattle.hm_textv_codes.specs.Names.{offsets_names, one_names, reverse_names, scalar_names, signed_names, vector_shift_names};
 
 use hm_isa::{
     AddName, BitwiseName, CarryName, ComplexSumName, ConstantShiftName, DoublingName, ExtremeName,
@@ -18,6 +19,14 @@ use hm_isa::{
     VectorShiftName,
 };
 use hm_text_rows::named;
+
+/// Which of two mnemonics a word is: 0 for the first, 1 for the second, and None where it is another.
+pub fn bit_by(mnemonic: &[u8], first: &str, second: &str) -> Option<u8>
+    ensures value { result ≡ named (λ b. either b first.now second.now) bit_values mnemonic.now }
+    ensures small { IfSome result (λ b. b < 2) }
+{
+    named(&[(0, first), (1, second)], mnemonic)
+}
 
 /// The name of a row V1.
 pub fn add_name(mnemonic: &[u8]) -> Option<AddName>
@@ -84,15 +93,6 @@ pub fn doubling_name(mnemonic: &[u8]) -> Option<DoublingName>
         (DoublingName::Qrdmulh, "vqrdmulh"),
     ];
     named(names, mnemonic)
-}
-
-/// The part of a row V6: 0 for the lower halves of wide elements, 1 for the upper.
-pub fn long_product_part(mnemonic: &[u8]) -> Option<u8>
-    ensures value { result ≡ named long_product_mnemonic bit_values mnemonic.now }
-    ensures small { IfSome result (λ t. t < 2) }
-{
-    let parts = &[(0, "vmullb"), (1, "vmullt")];
-    named(parts, mnemonic)
 }
 
 /// The name of a row V7.
@@ -287,35 +287,11 @@ pub fn block_mask(mnemonic: &[u8]) -> Option<u32>
     named(masks, mnemonic)
 }
 
-/// The bit A of a row V22 of a sum: 1 where it goes on from the old value.
-pub fn sum_bit(mnemonic: &[u8]) -> Option<u8>
-    ensures { result ≡ named sum_mnemonic bit_values mnemonic.now }
-{
-    let bits = &[(0, "vaddv"), (1, "vaddva")];
-    named(bits, mnemonic)
-}
-
 /// The bit A of a row V22 of products: 1 where it goes on from the old value.
 pub fn dot_bit(mnemonic: &[u8]) -> Option<u8>
     ensures { result ≡ option_or (named dot_mnemonic bit_values mnemonic.now) (named other_dot_mnemonic bit_values mnemonic.now) }
 {
     let bits = &[(0, "vmladav"), (1, "vmladava"), (0, "vmlav"), (1, "vmlava")];
-    named(bits, mnemonic)
-}
-
-/// The bit A of a row V22 of a long sum: 1 where it goes on from the old value.
-pub fn long_sum_bit(mnemonic: &[u8]) -> Option<u8>
-    ensures { result ≡ named long_sum_mnemonic bit_values mnemonic.now }
-{
-    let bits = &[(0, "vaddlv"), (1, "vaddlva")];
-    named(bits, mnemonic)
-}
-
-/// The bit A of a row V22 of a long sum of products: 1 where it goes on from the old value.
-pub fn long_dot_bit(mnemonic: &[u8]) -> Option<u8>
-    ensures { result ≡ named long_dot_mnemonic bit_values mnemonic.now }
-{
-    let bits = &[(0, "vmlaldav"), (1, "vmlaldava")];
     named(bits, mnemonic)
 }
 
@@ -343,32 +319,23 @@ pub fn access_in(mnemonic: &[u8]) -> Option<(u8, u32)>
     named(accesses, mnemonic)
 }
 
-/// Of a row V28 of two registers, 1 for a load and 0 for a store, and its part.
-pub fn pair_in(mnemonic: &[u8]) -> Option<(u8, u8)>
-    ensures { result ≡ pair_in mnemonic.now }
+/// Of a row V28, 1 for four registers and 0 for two, 1 for a load and 0 for a store, and its part.
+pub fn interleaved_in(mnemonic: &[u8]) -> Option<(u8, u8, u8)>
+    ensures { result ≡ interleaved_in mnemonic.now }
 {
     let parts = &[
-        ((0, 0), "vst20"),
-        ((0, 1), "vst21"),
-        ((1, 0), "vld20"),
-        ((1, 1), "vld21"),
-    ];
-    named(parts, mnemonic)
-}
-
-/// Of a row V28 of four registers, 1 for a load and 0 for a store, and its part.
-pub fn quad_in(mnemonic: &[u8]) -> Option<(u8, u8)>
-    ensures { result ≡ quad_in mnemonic.now }
-{
-    let parts = &[
-        ((0, 0), "vst40"),
-        ((0, 1), "vst41"),
-        ((0, 2), "vst42"),
-        ((0, 3), "vst43"),
-        ((1, 0), "vld40"),
-        ((1, 1), "vld41"),
-        ((1, 2), "vld42"),
-        ((1, 3), "vld43"),
+        ((0, 0, 0), "vst20"),
+        ((0, 0, 1), "vst21"),
+        ((0, 1, 0), "vld20"),
+        ((0, 1, 1), "vld21"),
+        ((1, 0, 0), "vst40"),
+        ((1, 0, 1), "vst41"),
+        ((1, 0, 2), "vst42"),
+        ((1, 0, 3), "vst43"),
+        ((1, 1, 0), "vld40"),
+        ((1, 1, 1), "vld41"),
+        ((1, 1, 2), "vld42"),
+        ((1, 1, 3), "vld43"),
     ];
     named(parts, mnemonic)
 }

@@ -1,13 +1,25 @@
 //! What a text gives numbers for, read without a refusal, since the row that is found is asked for its text.
 
 ghost use Rattle.std.specs.Prelude.{◌≡◌, map};
-ghost use Rattle.hm_textv_codes.specs.Operands.{compare_condition_in, other_value, read_operands, sign_of, value, word_value};
+ghost use Rattle.hm_textv_codes.specs.Operands.{compare_condition_in, kind_of, other_value, read_operands, sign_of, value, word_value};
 ghost use Rattle.hm_tokens.specs.Tokens.{tok};
 
 use hm_text_rows::{
     added, back_in, before, is_vector, named, operand, size_of, token_behind, value_by,
 };
 use hm_tokens::{Mark, Token, read_register, read_vector};
+
+/// What an operand is.
+#[derive(Clone, Copy, Debug, PartialEq, Eq)]
+pub enum Kind {
+    /// There is none.
+    Missing,
+    /// A word that names no vector register.
+    Word,
+    Number,
+    /// A vector register.
+    Vector,
+}
 
 /// What stands behind a mnemonic, as numbers.
 #[derive(Clone, Copy)]
@@ -18,8 +30,7 @@ pub struct Operands {
     pub sign: u32,
     /// The size of the elements: 0, 1, 2 and 3 are 8, 16, 32 and 64 bits.
     pub size: u32,
-    /// Whether the third operand is a vector register.
-    pub is_vector: bool,
+    pub third_kind: Kind,
     pub first: u32,
     pub second: u32,
     pub third: u32,
@@ -31,8 +42,8 @@ pub struct Operands {
     pub before: u32,
     /// 1 where an address is written back.
     pub back: u32,
-    /// Whether a vector register stands behind `[`.
-    pub is_at_vector: bool,
+    /// What stands behind `[`; a number where there is no address.
+    pub base_kind: Kind,
 }
 
 /// The number of the condition of a row V20 that a word names, 0 to 7 for eq, ne, cs, hi, ge, lt, gt and le; None where it names none.
@@ -88,6 +99,20 @@ fn value(token: Token<'_>) -> u32
     value_by(word_value, token)
 }
 
+/// What a token is as an operand.
+fn kind_of(token: Token<'_>) -> Kind
+    ensures { result ≡ kind_of (tok token.entry) }
+{
+    if is_vector(token) {
+        return Kind::Vector;
+    }
+    match token {
+        Token::Word(_) => Kind::Word,
+        Token::Number(_) => Kind::Number,
+        Token::Mark(_) => Kind::Missing,
+    }
+}
+
 /// 1 where the letter behind the point is u.
 #[tactic(auto, unfolding(crate::specs::Operands::sign_of))]
 fn sign_of(suffix: &[u8]) -> u32
@@ -100,7 +125,7 @@ fn sign_of(suffix: &[u8]) -> u32
     }
 }
 
-/// What stands behind a mnemonic: its suffix, with the point, and the other tokens.
+/// What tokens stand for, the first being a mnemonic with this suffix, which begins with the point.
 pub fn read_operands(suffix: &[u8], tokens: &[Token<'_>]) -> Operands
     ensures { result ≡ read_operands suffix.now (map tok tokens.now) }
 {
@@ -108,15 +133,15 @@ pub fn read_operands(suffix: &[u8], tokens: &[Token<'_>]) -> Operands
         is_bare: suffix.is_empty(),
         sign: sign_of(suffix),
         size: size_of(suffix),
-        is_vector: is_vector(operand(tokens, 2)),
-        first: value(operand(tokens, 0)),
-        second: value(operand(tokens, 1)),
-        third: value(operand(tokens, 2)),
-        fourth: value(operand(tokens, 3)),
-        fifth: value(operand(tokens, 4)),
+        third_kind: kind_of(operand(tokens, 3)),
+        first: value(operand(tokens, 1)),
+        second: value(operand(tokens, 2)),
+        third: value(operand(tokens, 3)),
+        fourth: value(operand(tokens, 4)),
+        fifth: value(operand(tokens, 5)),
         added: added(tokens),
         before: before(tokens),
         back: back_in(tokens),
-        is_at_vector: is_vector(token_behind(tokens, Mark::OpenBracket)),
+        base_kind: kind_of(token_behind(tokens, Mark::OpenBracket)),
     }
 }

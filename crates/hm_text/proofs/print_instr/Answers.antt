@@ -7,23 +7,21 @@ use Rattle.hm_text.proofs.print_instr.Goals as goal
 pub returns-in-Narrow : goal.returns-in-Narrow
 returns-in-Narrow c =
     let is = c.in-Narrow.ensures.value in
-    let read = narrow_printed c.args.i.now c.in-Narrow.row c.args.pc c.print16.result.bytes c.print16.ensures.text
-    (c.print16.ensures.read c.args.i.now (sym is)) in
+    let read = narrow_printed c.args.i.now c.in-Narrow.row c.args.pc c.print_narrow.result.bytes (sym is) c.print_narrow.ensures.text in
     record {
-      text = c.print16.ensures.text ∙ ap (λ (w : ByWidth). printed_by w c.args.pc) is;
+      text = c.print_narrow.ensures.text ∙ ap (λ (w : ByWidth). printed_by w c.args.pc) is;
       read = read;
-      width = width_is c.print16.result.bytes c.args.pc no_labels c.args.i.now (read no_labels);
+      width = width_is c.print_narrow.result.bytes c.args.pc no_labels c.args.i.now (read no_labels);
     }
 
 pub returns-in-Wide : goal.returns-in-Wide
 returns-in-Wide c =
     let is = c.in-Wide.ensures.value in
-    let read = wide_printed c.args.i.now c.in-Wide.row c.args.pc c.print32.result.bytes c.print32.ensures.text
-    (c.print32.ensures.read c.args.i.now (sym is)) in
+    let read = wide_printed c.args.i.now c.in-Wide.row c.args.pc c.print_wide.result.bytes (sym is) c.print_wide.ensures.text in
     record {
-      text = c.print32.ensures.text ∙ ap (λ (w : ByWidth). printed_by w c.args.pc) is;
+      text = c.print_wide.ensures.text ∙ ap (λ (w : ByWidth). printed_by w c.args.pc) is;
       read = read;
-      width = width_is c.print32.result.bytes c.args.pc no_labels c.args.i.now (read no_labels);
+      width = width_is c.print_wide.result.bytes c.args.pc no_labels c.args.i.now (read no_labels);
     }
 
 pub returns-in-Vector : goal.returns-in-Vector

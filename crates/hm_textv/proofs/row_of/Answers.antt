@@ -5,25 +5,25 @@ use Rattle.hm_textv.proofs.Parsing.{no_code, no_row, other_row, the_row, too_lar
 use Rattle.hm_textv.proofs.row_of.Goals as goal
 
 pub returns-in_err-code-clause-only : goal.returns-in_err-code-clause-only
-returns-in_err-code-clause-only c v has = absurd (no_code (map tok c.args.tokens.now) (sym c.in_err-code.ensures.value) v has)
+returns-in_err-code-clause-only c v has = absurd (no_code (map tok c.args.tokens.now) c.in_err-code.ensures.code v has)
 
 pub returns-then-code-gt-LAST-clause-only : goal.returns-then-code-gt-LAST-clause-only
 returns-then-code-gt-LAST-clause-only c v has =
-    absurd (too_large (map tok c.args.tokens.now) c.in_ok-code.code (sym c.in_ok-code.ensures.value) c.if-code-gt-LAST.true v has)
+    absurd (too_large (map tok c.args.tokens.now) c.in_ok-code.code c.in_ok-code.ensures.code c.if-code-gt-LAST.true v has)
 
 pub returns-in_err-v-clause-only : goal.returns-in_err-v-clause-only
 returns-in_err-v-clause-only c v has =
-    absurd (no_row (map tok c.args.tokens.now) c.in_ok-code.code (sym c.in_ok-code.ensures.value) c.in_err-v.ensures.none v has)
+    absurd (no_row (map tok c.args.tokens.now) c.in_ok-code.code c.in_ok-code.ensures.code c.in_err-v.ensures.none v has)
 
 pub returns-then-is_text_of-clause-found : goal.returns-then-is_text_of-clause-found
 returns-then-is_text_of-clause-found c = c.is_text_of.ensures.0 c.if-is_text_of.true
 
 pub returns-then-is_text_of-clause-only : goal.returns-then-is_text_of-clause-only
 returns-then-is_text_of-clause-only c v has =
-    the_row (map tok c.args.tokens.now) c.in_ok-code.code c.in_ok-v.v (sym c.in_ok-code.ensures.value) c.in_ok-v.ensures.exact v has
+    the_row (map tok c.args.tokens.now) c.in_ok-code.code c.in_ok-v.v c.in_ok-code.ensures.code c.in_ok-v.ensures.exact v has
 
 pub returns-clause-only : goal.returns-clause-only
 returns-clause-only c v has =
     absurd
-    (other_row (map tok c.args.tokens.now) c.in_ok-code.code c.in_ok-v.v (sym c.in_ok-code.ensures.value) c.in_ok-v.ensures.exact
+    (other_row (map tok c.args.tokens.now) c.in_ok-code.code c.in_ok-v.v c.in_ok-code.ensures.code c.in_ok-v.ensures.exact
     (λ h. false≢true (sym c.if-is_text_of.false ∙ c.is_text_of.ensures.1 h)) v has)

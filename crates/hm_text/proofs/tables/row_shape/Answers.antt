@@ -2,8 +2,7 @@ use Rattle.std.proofs.Common.{Some, inl}
 use Rattle.std.specs.Prelude.{option_map}
 use Rattle.hm_tokens.specs.Tokens.{tok}
 use Rattle.hm_text.specs.Tables.{Seen}
-use Rattle.hm_text.proofs.Apart.{apart}
-use Rattle.hm_text.proofs.InTables.{Long, Narrow, first_only, then_found, then_only}
+use Rattle.hm_text.proofs.InTables.{first_only, then_found, then_only}
 use Rattle.hm_text.proofs.tables.row_shape.Goals as goal
 
 pub returns-in-Some-clause-found : goal.returns-in-Some-clause-found
@@ -12,14 +11,13 @@ returns-in-Some-clause-found c = let f = c.in-Some.ensures.found in (f.0, f.1, i
 pub returns-in-Some-clause-only : goal.returns-in-Some-clause-only
 returns-in-Some-clause-only c =
     let f = c.in-Some.ensures.found in
-    first_only (Narrow c.args.text.now) (Long c.args.text.now) (apart c.args.text.now) (Some (c.in-Some.shape.width, option_map tok c.in-Some.shape.label)) f.0
-    f.1 f.2 c.in-Some.ensures.only
+    first_only c.args.text.now (Some (c.in-Some.shape.width, option_map tok c.in-Some.shape.label)) f.0 f.1 f.2 c.in-Some.ensures.only
 
 pub returns-in-None-clause-found : goal.returns-in-None-clause-found
 returns-in-None-clause-found c =
-    then_found (Narrow c.args.text.now) (Long c.args.text.now) c.long_shape.result (λ s. s.width) (λ s. option_map tok s.label) c.long_shape.ensures.found
+    then_found c.args.text.now c.vector_shape.result (λ s. s.width) (λ s. option_map tok s.label) c.vector_shape.ensures.found
 
 pub returns-in-None-clause-only : goal.returns-in-None-clause-only
 returns-in-None-clause-only c =
-    then_only (Narrow c.args.text.now) (Long c.args.text.now) (option_map {U = Seen} (λ s. (s.width, option_map tok s.label)) c.long_shape.result)
-    c.in-None.ensures.only c.long_shape.ensures.only
+    then_only c.args.text.now (option_map {U = Seen} (λ s. (s.width, option_map tok s.label)) c.vector_shape.result) c.in-None.ensures.only
+    c.vector_shape.ensures.only

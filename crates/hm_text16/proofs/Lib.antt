@@ -1,4 +1,0 @@
-pub mod Fits
-pub mod Laws
-pub mod Tails
-pub mod Parsing
