@@ -9,7 +9,8 @@ use Rattle.hm_lane.specs.declared.lanes.Size.{Size}
 use Rattle.hm_lane.specs.declared.lanes.Size.TheVariants as size
 use Rattle.hm_mem.specs.declared.Actor.TheVariants.{Thread}
 use Rattle.hm_mem.specs.Memory.{Around}
-use Rattle.hm_mem.specs.Seen.{marks, unless}
+use Rattle.hm_mem.specs.Seen.{marks}
+use Rattle.hm_base.specs.Results.{unless}
 use Rattle.hm_order.specs.Beats.{then}
 use Rattle.hm_state.specs.State.{Cell, State, Value}
 use Rattle.hm_beat.specs.Rows.{predicate_at, register_at, write_register}

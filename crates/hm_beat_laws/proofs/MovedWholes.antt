@@ -12,7 +12,8 @@ use Rattle.hm_mem.specs.declared.Access.TheVariants.{Vector}
 use Rattle.hm_mem.specs.declared.Actor.TheVariants.{Thread}
 use Rattle.hm_mem.specs.Devices.{byte_of}
 use Rattle.hm_mem.specs.Memory.{Around}
-use Rattle.hm_mem.specs.Seen.{as_stops, fault_kind, marks, unless}
+use Rattle.hm_mem.specs.Seen.{as_stops, fault_kind, marks}
+use Rattle.hm_base.specs.Results.{unless}
 use Rattle.hm_order.specs.Beats.{then}
 use Rattle.hm_state.specs.Store.{put, put_all}
 use Rattle.hm_state.specs.State.{At, Byte, Cell, State, Value, cells, same_cell}

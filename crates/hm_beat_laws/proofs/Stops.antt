@@ -14,6 +14,7 @@ use Rattle.hm_mem.specs.declared.Actor.{Actor}
 use Rattle.hm_mem.specs.declared.Actor.TheVariants.{Thread, Handler, Entry}
 use Rattle.hm_mem.specs.Devices.{has_width, in_devices, tells_time, word_at}
 use Rattle.hm_moves.proofs.Accesses.{fault_free, in_memory, within}
+use Rattle.hm_mem.proofs.Stops.{none_left}
 use Rattle.hm_whole.specs.Whole.{seen_in}
 use Rattle.hm_mem.specs.Memory.{Around}
 use Rattle.hm_mem.specs.Seen.{fault_kind, is_denied, is_kept, is_thread, is_unaligned, lies_in_flash, lies_in_memory, some_byte, stop_after}
@@ -155,10 +156,6 @@ thread_free thread store len a h =
     (tells_time (word_at a)) thread _ _ _ _ _
     (λ out. ap tells_time (no_word a out)) h
 
-both_none : (o q : Option Stop) → option_or o q ≡ None → (o ≡ None) × (q ≡ None)
-both_none None q h = (refl, h)
-both_none (Some e) q h = (cc, cc)
-
 where_none : (p : Bool) (o : Option Stop) (f : Option Fault) → (o ≡ None → f ≡ None) → cond p o None ≡ None → cond p f None ≡ None
 where_none true o f g h = g h
 where_none false o f g h = refl
@@ -168,7 +165,7 @@ pub no_fault : (x : Around) (store : Bool) (y : Size) (s : State) (ps : List Boo
 no_fault x store y s [] addrs h = refl
 no_fault x store y s (p ∷ ps) [] h = refl
 no_fault x store y s (p ∷ ps) (a ∷ addrs) h =
-    let none = both_none (cond p (element_stop x store y s a) None) (first_among (element_stop x store y s) ps addrs) h in
+    let none = none_left (cond p (element_stop x store y s a) None) (first_among (element_stop x store y s) ps addrs) h in
     let free : element_stop x store y s a ≡ None → fault_after (fault_kind true Vector store (byte_count y) a) a ≡ None
     = λ e. ap (λ k. fault_after k a) (thread_free (is_thread x.actor) store (byte_count y) a (fault_free x store (byte_count y) a (seen_in s) e)) in
     λ j. option_or (where_none p (element_stop x store y s a) (fault_after (fault_kind true Vector store (byte_count y) a) a) free none.0 j)

@@ -13,7 +13,8 @@ use Rattle.hm_elf.specs.declared.reading.ProgramHeader.{ProgramHeader}
 use Rattle.hm_elf.specs.Elf.{half, word, begins_as_elf, header_size, entry_size, most_headers, class_of, order_of, kind_of, machine_of, table_start}
 use Rattle.hm_elf.specs.Elf.{entry_size_of, header_count, IsHeader, headers_in, headers_of, loads, loading, loaded, IsLoaded, with_segments, IsElf, IsFlat}
 use Rattle.hm_elf.specs.Elf.{IsImageFile}
-use Rattle.hm_elf.specs.ReadImage.{first_failing, unless, flat_in, header_checks, size_checks, place_in, load_in, loads_in, elf_in, image_in, Gives}
+use Rattle.hm_elf.specs.ReadImage.{first_failing, flat_in, header_checks, size_checks, place_in, load_in, loads_in, elf_in, image_in, Gives}
+use Rattle.hm_base.specs.Results.{unless}
 use Rattle.hm_elf.proofs.Placing.{placed, placed_found, image_parts, IsImage-before}
 use Rattle.hm_elf.proofs.LoadSteps.{skipped, to_place}
 

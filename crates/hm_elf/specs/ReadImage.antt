@@ -2,6 +2,7 @@
 use Rattle.std.specs.Prelude.{◌≡◌, ℕ, ◌+◌, ◌*◌, Bool, nat_lt, nat_le, ◌==◌, ◌&&◌, ◌||◌, List, [], ◌∷◌, length, Option, Some, None, Result, Ok, Err}
 use Rattle.std.specs.Prelude.{if◌then◌else◌}
 use Rattle.std.specs.List.{list_all}
+use Rattle.hm_base.specs.Results.{unless}
 use Rattle.hm_base.specs.Image.{Segment, with_segment, flash_size, sram_start, sram_size, flat}
 use Rattle.hm_base.specs.declared.errors.ImageErr.{ImageErr}
 use Rattle.hm_base.specs.declared.errors.ImageErr.TheVariants as refusals
@@ -18,11 +19,6 @@ Check = Bool × ImageErr
 abbrev pub first_failing : List Check → Option ImageErr
 first_failing [] = None
 first_failing ((passes, refusal) ∷ checks) = if passes then first_failing checks else Some refusal
-
--- the refusal, where there is one, else what is read
-abbrev pub unless : {Y : Type 0} → Option ImageErr → Result Y ImageErr → Result Y ImageErr
-unless None read = read
-unless (Some refusal) read = Err refusal
 
 -- ---- flat images
 

@@ -1,7 +1,7 @@
 -- What holds of both sides of a choice.
 use Rattle.std.proofs.Common.{Bool, true, false, cond}
 use Rattle.std.specs.Prelude.{Option, Some, None, Result, IfOk}
-use Rattle.hm_mem.specs.Seen.{unless}
+use Rattle.hm_base.specs.Results.{unless}
 
 pub either : {A : Type 0} (P : A → Type 0) (b : Bool) (x y : A) → P x → P y → P (cond b x y)
 either P true x y h k = h

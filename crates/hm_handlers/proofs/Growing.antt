@@ -2,15 +2,15 @@
 use Rattle.std.proofs.Common.{◌≡◌, ◌⊎◌, ℕ, zero, suc, ◌+◌, ◌-◌, ◌<◌, ◌≤◌, Bool, true, false, cond, not, ◌&&◌, ◌||◌, List, [], ◌∷◌, length, Option, Some, None}
 use Rattle.std.proofs.Common.{Result, Ok, Err, inl, inr, ⊎_elim, refl, sym, ◌∙◌, ap, subst, arith, add-zero}
 use Rattle.std.proofs.lemmas.Bool.Decides.{nat_tests}
-use Rattle.std.specs.Option.{option_or}
-use Rattle.hm_base.specs.declared.FaultKind.{FaultKind}
 use Rattle.hm_base.specs.declared.Stop.{Stop}
 use Rattle.hm_isa.specs.declared.Instr.{Instr}
 use Rattle.hm_mem.specs.Devices.{IsLen, sets_pending, word_at}
 use Rattle.hm_mem.specs.Memory.{Around, thread_under, Bounds}
-use Rattle.hm_mem.specs.Seen.{Seen, after_load, after_store, covers, fault_kind, is_allowed, is_denied, lies_in_sram, marks, some_byte, stop_after}
-use Rattle.hm_mem.specs.Seen.{stop_of, unless}
+use Rattle.hm_mem.specs.Seen.{Seen, after_load, after_store, covers, fault_kind, is_allowed, is_denied, lies_in_sram, marks, some_byte}
+use Rattle.hm_mem.specs.Seen.{stop_of}
+use Rattle.hm_base.specs.Results.{unless}
 use Rattle.hm_mem.specs.declared.Access.{Access}
+use Rattle.hm_mem.proofs.Stops.{kept_none, none_left}
 use Rattle.hm_order.proofs.Results.{decide, ok_err, ok_same, true_not_false}
 use Rattle.hm_state.specs.State.{State, Byte, regs_of}
 use Rattle.hm_regs.specs.declared.Regs.{Regs}
@@ -92,11 +92,6 @@ module _ (p : ℕ → Bool) (a : ℕ) where
   free_at len (inr (inl e)) h k l = two (subst (λ (n : ℕ). some_byte n p a ≡ false) e h) k (subst (λ (n : ℕ). k < n) e l)
   free_at len (inr (inr e)) h k l = four (subst (λ (n : ℕ). some_byte n p a ≡ false) e h) k (subst (λ (n : ℕ). k < n) e l)
 
-kept_none : (k : Option FaultKind) (kept : Bool) (a : ℕ) → stop_after k kept true a ≡ None → kept ≡ false
-kept_none (Some k) kept a h = absurd cc
-kept_none None true a h = absurd cc
-kept_none None false a h = refl
-
 pub not_false : (b : Bool) → not b ≡ false → b ≡ true
 not_false true h = refl
 not_false false h = absurd cc
@@ -141,10 +136,6 @@ thread_store len a v s b tainted =
 loads_taint : (len n a : ℕ) (s : Seen) (b : ℕ) → (after_loads len n a s).taint b ≡ s.taint b
 loads_taint len zero a s b = refl
 loads_taint len (suc n) a s b = loads_taint len n (behind len a) (after_load a s) b
-
-none_left : (o p : Option Stop) → option_or o p ≡ None → (o ≡ None) × (p ≡ None)
-none_left (Some e) p h = absurd cc
-none_left None p h = (refl, h)
 
 -- under who accesses the memory: a store that does not stop taints such bytes alone, and its stop does not look at the memory
 module _ (x : Around) (P : ℕ → Type 0)

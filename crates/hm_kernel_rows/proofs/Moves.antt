@@ -22,7 +22,8 @@ use Rattle.hm_lane.proofs.LaneLists.{lanes-unlanes}
 use Rattle.hm_lane_fns.specs.Words.{filled as spread_tests, size_of}
 use Rattle.hm_mem.specs.declared.Access.TheVariants.{Vector}
 use Rattle.hm_mem.specs.Devices.{has_width, tells_time, word_at}
-use Rattle.hm_mem.specs.Seen.{fault_kind, unless}
+use Rattle.hm_mem.specs.Seen.{fault_kind}
+use Rattle.hm_base.specs.Results.{unless}
 use Rattle.hm_moves.specs.Moves.{fault_after, byte_count}
 use Rattle.hm_moves.specs.Ways.{Transfer, each_from, straight, way_writes_lr}
 use Rattle.hm_moves.specs.Wholes.{count, fault_of, loaded_elements, read_at, transfer_whole, transferred, written_back}

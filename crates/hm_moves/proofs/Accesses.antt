@@ -7,10 +7,8 @@ use Rattle.hm_base.specs.declared.FaultKind.{FaultKind}
 use Rattle.hm_base.specs.declared.FaultKind.TheVariants as kind
 use Rattle.hm_lane.specs.declared.lanes.Size.{Size}
 use Rattle.hm_mem.specs.declared.Access.TheVariants.{Vector}
-use Rattle.hm_mem.specs.declared.Actor.{Actor}
-use Rattle.hm_mem.specs.declared.Actor.TheVariants.{Thread, Handler, Entry}
 use Rattle.hm_mem.specs.Devices.{byte_of, has_width, in_devices, word_at}
-use Rattle.hm_mem.specs.Memory.{Around, Bounds}
+use Rattle.hm_mem.specs.Memory.{Around}
 use Rattle.hm_mem.specs.Seen.{Seen, fault_kind, is_kept, is_thread, is_unaligned, lies_in_flash, lies_in_memory, lies_in_sram, stop_after, stop_of}
 use Rattle.hm_moves.specs.Moves.{byte_count}
 
@@ -59,18 +57,6 @@ fault_free x store len a s h = no_fault (fault_kind (is_thread x.actor) Vector s
 -- addresses within the memory do not go past the last
 pub within : (z : Size) (a k : ℕ) → lies_in_memory (byte_count z) a ≡ true → k < byte_count z → (a + k) % 2 ^ 32 ≡ a + k
 within z a k h l = grind (arith, nat_tests)
-
--- STORES
--- what stops a store does not depend on what the memory holds
-kept_store : (x : Bounds) (who : Actor) (len a : ℕ) (s t : Seen) → is_kept who x true len a s ≡ is_kept who x true len a t
-kept_store x Thread len a s t = refl
-kept_store x (Handler f) len a s t = refl
-kept_store x Entry len a s t = refl
-
-pub stop_of-elsewhere : (x y : Around) (len a : ℕ) (s t : Seen) → x ≡ y → stop_of y Vector true len a t ≡ None → stop_of x Vector true len a s ≡ None
-stop_of-elsewhere x y len a s t e h =
-    ap (λ (z : Around). stop_of z Vector true len a s) e
-    ∙ ap (λ b. stop_after (fault_kind (is_thread y.actor) Vector true len a) b true a) (kept_store y.bounds y.actor len a s t) ∙ h
 
 -- a byte of a shifted word
 pub shifted_byte : (w lane k : ℕ) → byte_of (w / 2 ^ (8 * lane)) k ≡ byte_of w (lane + k)

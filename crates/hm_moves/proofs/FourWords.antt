@@ -9,7 +9,8 @@ use Rattle.hm_lane.specs.declared.lanes.Size.TheVariants as size
 use Rattle.hm_lane.specs.Lanes.{bytes_of, firsts, lanes, per_word, unlanes, word_of}
 use Rattle.hm_lane.specs.Predicate.{allowed, mask_place, remains}
 use Rattle.hm_mem.specs.declared.Access.TheVariants.{Vector}
-use Rattle.hm_mem.specs.Seen.{fault_kind, unless}
+use Rattle.hm_mem.specs.Seen.{fault_kind}
+use Rattle.hm_base.specs.Results.{unless}
 use Rattle.hm_state.specs.Store.{put_all}
 use Rattle.hm_state.specs.State.{At, Byte, Cell, State, Value, at, cells, word}
 use Rattle.hm_beat.specs.Touches.{span_bytes}

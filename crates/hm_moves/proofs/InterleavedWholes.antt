@@ -5,7 +5,7 @@ use Rattle.hm_state.specs.Store.{put_all}
 use Rattle.hm_state.specs.State.{At, State, cells}
 use Rattle.hm_beat.specs.Rows.{advance_half, retired}
 use Rattle.hm_kinds.specs.Row.{numbers}
-use Rattle.hm_mem.specs.Seen.{unless}
+use Rattle.hm_base.specs.Results.{unless}
 use Rattle.hm_moves.specs.Moves.{Moves, all_bytes_from, all_elements, back_at, first_fault, handed, moved, moves_by_words, stored_at, byte_count}
 use Rattle.hm_moves.specs.Ways.{Found, Transfer, each_from, interleaved, moves_by}
 use Rattle.hm_moves.specs.Wholes.{addresses, are_moved, count, fault_of, filled_registers, loaded, loaded_elements, element_bytes, stored_elements}

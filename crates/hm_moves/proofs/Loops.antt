@@ -1,5 +1,5 @@
 -- Elements one after another, for the loops of the code.
-use Rattle.std.proofs.Common.{◌≡◌, ℕ, zero, suc, ◌+◌, ◌<◌, Bool, List, [], ◌∷◌, ◌++◌, drop, length, get_or, Option, Some, None, refl, sym, ◌∙◌, ap, arith}
+use Rattle.std.proofs.Common.{◌≡◌, ℕ, zero, suc, ◌+◌, ◌<◌, Bool, List, [], ◌∷◌, ◌++◌, drop, length, get_or, Some, None, refl, sym, ◌∙◌, ap, arith}
 use Rattle.std.proofs.Common.{append_assoc}
 use Rattle.std.proofs.Math.Seq.{drop-cons}
 use Rattle.std.proofs.lemmas.List.{append-nil}
@@ -10,6 +10,7 @@ use Rattle.hm_lane.specs.declared.lanes.Size.{Size}
 use Rattle.hm_mem.specs.declared.Access.TheVariants.{Vector}
 use Rattle.hm_mem.specs.Memory.{Around}
 use Rattle.hm_mem.specs.Seen.{Seen, read, stop_of}
+use Rattle.hm_mem.proofs.Stops.{none_left}
 use Rattle.hm_beat.specs.Touches.{span_bytes, spanned}
 use Rattle.hm_moves.specs.declared.elements.Element.{Element}
 use Rattle.hm_moves.specs.Coded.{filled_in, first_stop}
@@ -22,11 +23,6 @@ pub drop_at : {A : Type 0} (d : A) (xs : List A) (k : ℕ) → k < length xs →
 drop_at d xs k h =
     let one : suc k ≡ k + 1 = omega arith in
     drop-cons xs k d h ∙ ap (λ (j : ℕ). get_or xs k d ∷ drop j xs) one
-
--- neither stops
-pub both_none : (o p : Option Stop) → option_or o p ≡ None → (o ≡ None) × (p ≡ None)
-both_none (Some e) p h = absurd (cc)
-both_none None p h = (refl, h)
 
 module _ (x : Around) (store : Bool) (len : ℕ) (es : List Element) (k : ℕ) (s : Seen) (low : k < length es) where
   stop_step : first_stop x store len (drop k es) s
@@ -44,14 +40,14 @@ module _ (x : Around) (store : Bool) (len : ℕ) (es : List Element) (k : ℕ) (
   -- where none stops, this one does not, nor any behind it
   pub stop_none : first_stop x store len (drop k es) s ≡ None
       → (stop_of x Vector store len (get_or es k none).addr s ≡ None) × (first_stop x store len (drop (k + 1) es) s ≡ None)
-  stop_none h = both_none _ _ (sym stop_step ∙ h)
+  stop_none h = none_left _ _ (sym stop_step ∙ h)
 
 -- none stops of those from one on
 pub drop_none : (x : Around) (store : Bool) (len : ℕ) (es : List Element) (k : ℕ) (s : Seen) → first_stop x store len es s ≡ None
     → first_stop x store len (drop k es) s ≡ None
 drop_none x store len es zero s h = h
 drop_none x store len [] (suc k) s h = refl
-drop_none x store len (e ∷ es) (suc k) s h = drop_none x store len es k s (both_none _ _ h).1
+drop_none x store len (e ∷ es) (suc k) s h = drop_none x store len es k s (none_left _ _ h).1
 
 -- SPANS
 spanned-more : (xs : List Span) (x : Span) → spanned (xs ++ x ∷ []) ≡ spanned xs ++ span_bytes x.addr x.len

@@ -14,7 +14,8 @@ use Rattle.hm_lane.specs.Predicate.{active_bytes, advance_of, mask_place}
 use Rattle.hm_mem.specs.declared.Actor.TheVariants.{Thread}
 use Rattle.hm_mem.specs.Memory.{Around}
 use Rattle.hm_mem.specs.declared.Access.TheVariants.{Vector}
-use Rattle.hm_mem.specs.Seen.{as_stops, fault_kind, marks, unless}
+use Rattle.hm_mem.specs.Seen.{as_stops, fault_kind, marks}
+use Rattle.hm_base.specs.Results.{unless}
 use Rattle.hm_order.proofs.Results.{decide, ok_same, ok_err, true_not_false}
 use Rattle.hm_state.specs.Store.{put_all}
 use Rattle.hm_state.specs.State.{At, Byte, Cell, State, Value, at, cells, into, is_dead, same_cell}

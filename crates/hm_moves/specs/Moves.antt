@@ -19,7 +19,8 @@ use Rattle.hm_mem.specs.declared.Actor.{Actor}
 use Rattle.hm_mem.specs.declared.Actor.TheVariants.{Handler}
 use Rattle.hm_mem.specs.Devices.{byte_of}
 use Rattle.hm_mem.specs.Memory.{Around, Bounds}
-use Rattle.hm_mem.specs.Seen.{fault_kind, is_denied, is_thread, marks, stop_after, unless}
+use Rattle.hm_mem.specs.Seen.{fault_kind, is_denied, is_thread, marks, stop_after}
+use Rattle.hm_base.specs.Results.{unless}
 use Rattle.hm_state.specs.Store.{put_all}
 use Rattle.hm_state.specs.State.{At, Byte, Cell, State, Value, at, cells, into, word}
 use Rattle.hm_beat.specs.Trees.{Asks, Check, Do, Fails, Leaf}

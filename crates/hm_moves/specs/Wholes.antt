@@ -10,7 +10,8 @@ use Rattle.hm_lane.specs.declared.lanes.Size.TheVariants.{Word}
 use Rattle.hm_lane.specs.Lanes.{bytes_of, firsts, lanes, per_word, unlanes, words}
 use Rattle.hm_mem.specs.declared.Access.TheVariants.{Vector}
 use Rattle.hm_mem.specs.Devices.{byte_of}
-use Rattle.hm_mem.specs.Seen.{fault_kind, unless}
+use Rattle.hm_mem.specs.Seen.{fault_kind}
+use Rattle.hm_base.specs.Results.{unless}
 use Rattle.hm_state.specs.Store.{put_all}
 use Rattle.hm_state.specs.State.{Byte, Cell, State, Value, at, cells, into}
 use Rattle.hm_beat.specs.Rows.{advance_half, predicate_at, register_at, retired, word_place, write_register, write_words}

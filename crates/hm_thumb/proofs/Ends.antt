@@ -8,7 +8,8 @@ use Rattle.hm_base.specs.declared.FaultKind.{FaultKind}
 use Rattle.hm_base.specs.declared.FaultKind.TheVariants.{Bus}
 use Rattle.hm_mem.specs.Devices.{has_width, word_at}
 use Rattle.hm_mem.specs.Memory.{thread_under, Bounds}
-use Rattle.hm_mem.specs.Seen.{Seen, fault_kind, is_kept, read, stop_after, unless}
+use Rattle.hm_mem.specs.Seen.{Seen, fault_kind, is_kept, read, stop_after}
+use Rattle.hm_base.specs.Results.{unless}
 use Rattle.hm_mem.specs.declared.Actor.TheVariants.{Thread}
 use Rattle.hm_mem.specs.declared.Access.TheVariants.{Scalar}
 use Rattle.hm_thumb.specs.Calls.{more, most_text, text}

@@ -1,9 +1,11 @@
 use Rattle.std.proofs.Common.{◌*◌, ◌/◌, ◌^◌, ◌<◌, length, get_or, true, ◌∙◌, arith}
+use Rattle.hm_mem.specs.declared.Access.TheVariants.{Vector}
 use Rattle.hm_mem.specs.Memory.{memory_of}
 use Rattle.hm_mem.specs.Seen.{after_store, is_thread, marks, seen}
 use Rattle.hm_moves.specs.Moves.{byte_count}
-use Rattle.hm_moves.proofs.Accesses.{fault_free, in_sram, stop_of-elsewhere}
+use Rattle.hm_moves.proofs.Accesses.{fault_free, in_sram}
 use Rattle.hm_mem.proofs.Elsewhere.{same_trans}
+use Rattle.hm_mem.proofs.Stops.{stop_of-elsewhere}
 use Rattle.hm_moves.proofs.Loops.{drop_none, none, stop_none}
 use Rattle.hm_moves.proofs.Stored.{put_state, store_next}
 use Rattle.hm_moves.proofs.elements.store_all.Goals as goal
@@ -13,7 +15,7 @@ put-requires-clause-free c =
     let m = memory_of c.args.m.now in
     let len = byte_count c.args.row.now.memory in
     let k = c.loop-e.e-index in
-    rw c.byte_count.ensures.value (stop_of-elsewhere (memory_of c.loop-e.m).around m.around len (get_or c.args.es.now k none).addr (seen (memory_of c.loop-e.m))
+    rw c.byte_count.ensures.value (stop_of-elsewhere (memory_of c.loop-e.m).around m.around Vector len (get_or c.args.es.now k none).addr (seen (memory_of c.loop-e.m))
     (seen m) c.loop-e.invariant.kept.around
     (stop_none m.around true len c.args.es.now k (seen m) (omega arith) (drop_none m.around true len c.args.es.now k (seen m) c.requires.free)).0)
 
