@@ -12,7 +12,7 @@ use Rattle.hm_lane.specs.declared.lanes.Size.TheVariants as size
 use Rattle.hm_mem.specs.declared.Access.TheVariants.{Vector}
 use Rattle.hm_mem.specs.declared.Actor.{Actor}
 use Rattle.hm_mem.specs.declared.Actor.TheVariants.{Thread, Handler, Entry}
-use Rattle.hm_mem.specs.Devices.{has_width, in_devices, tells_time, word_at}
+use Rattle.hm_mem.specs.Devices.{has_width, in_devices, tells_time, device_word}
 use Rattle.hm_moves.proofs.Accesses.{fault_free, in_memory, within}
 use Rattle.hm_mem.proofs.Stops.{none_left}
 use Rattle.hm_whole.specs.Whole.{seen_in}
@@ -137,7 +137,7 @@ active_stops f q g j (suc n) =
     one_stop f p (g j) (active_ones q (each_from g (j + 1) n)) ∙ ap (option_or (cond p (f (g j).addr) None)) (active_stops f q g (j + 1) n)
 
 -- WHERE NO ELEMENT STOPS there is no fault, also for the thread: a vector access reaches no device, so none that tells the time
-no_word : (a : ℕ) → in_devices a ≡ false → word_at a ≡ None
+no_word : (a : ℕ) → in_devices a ≡ false → device_word a ≡ None
 no_word a out = grind (arith, nat_tests, out)
 
 timed : (p q r w s t y : Bool) (e f g k l : FaultKind) → (q ≡ false → t ≡ false)
@@ -152,8 +152,8 @@ timed false false false false false t y e f g k l out h = ap (λ v. if v then So
 
 thread_free : (thread store : Bool) (len a : ℕ) → fault_kind thread Vector store len a ≡ None → fault_kind true Vector store len a ≡ None
 thread_free thread store len a h =
-    timed (is_unaligned Vector len a) (in_devices a) (not (lies_in_memory len a || has_width (word_at a) len)) (store && lies_in_flash len a) store
-    (tells_time (word_at a)) thread _ _ _ _ _
+    timed (is_unaligned Vector len a) (in_devices a) (not (lies_in_memory len a || has_width (device_word a) len)) (store && lies_in_flash len a) store
+    (tells_time (device_word a)) thread _ _ _ _ _
     (λ out. ap tells_time (no_word a out)) h
 
 where_none : (p : Bool) (o : Option Stop) (f : Option Fault) → (o ≡ None → f ≡ None) → cond p o None ≡ None → cond p f None ≡ None

@@ -4,7 +4,7 @@ ghost use Rattle.std.specs.Prelude.{◌≡◌, ◌+◌, ◌≤◌, ◌++◌, [],
 ghost use Rattle.std.specs.Vec.{vec_capacity, vec_len};
 ghost use Rattle.hm_cpu.specs.Cpus.{executed, state_in, IsServed};
 ghost use Rattle.hm_cpu.specs.Services.{asked_by, asked_for, told, AreFree, IsThere};
-ghost use Rattle.hm_mem.specs.Devices.{has_width, read_devices, word_at};
+ghost use Rattle.hm_mem.specs.Devices.{has_width, read_devices, device_word};
 ghost use Rattle.hm_mem.specs.Memory.{memory_of};
 ghost use Rattle.hm_mem.specs.Seen.{read, seen, stop_of};
 ghost use Rattle.hm_base.specs.Results.{unless};
@@ -102,8 +102,8 @@ fn requested(regs: &Regs, mem: &Mem) -> Result<Request, Stop>
 
 /// One byte of the devices that can be loaded by itself: a priority.
 fn device_byte(addr: u32, dev: &Dev) -> u8
-    requires width { IsTrue (has_width (word_at addr) 1) }
-    ensures value { result ≡ read_devices dev.now (word_at addr) 1 addr }
+    requires width { IsTrue (has_width (device_word addr) 1) }
+    ensures value { result ≡ read_devices dev.now (device_word addr) 1 addr }
 {
     if addr >= 0xe000_e400 && addr < 0xe000_e4f0 {
         dev.prio[(addr - 0xe000_e400) as usize]

@@ -18,7 +18,7 @@ use hm_beat::Touch;
 use hm_isa::{ExtremeName, V23};
 use hm_kinds::{Shape, Written, active, finish_row, read, touch_row};
 use hm_lane::{Size, bytes};
-use hm_lane_fns::{cut, lane_value, size, word_at};
+use hm_lane_fns::{cut, lane_value, size, word_place};
 use hm_regs::Regs;
 
 /// The better of two numbers, where the second is active.
@@ -98,7 +98,7 @@ pub fn touch_extreme(row: &V23, b: u8, r: &Regs) -> Touch
 {
     let register = Place::R(row.t.get() as u8);
     let mut sources = Places::new();
-    note(&mut sources, word_at(&row.m, b));
+    note(&mut sources, word_place(&row.m, b));
     note(&mut sources, register);
     let shape = Shape {
         reads_slice: false,
@@ -117,7 +117,7 @@ pub fn beat_extreme(row: &V23, b: u8, r: &mut Regs)
 {
     let register = Place::R(row.t.get() as u8);
     let t = read(r, register);
-    let x = read(r, word_at(&row.m, b));
+    let x = read(r, word_place(&row.m, b));
     let value = extreme(row, active(r, b), t, x);
     let written = Written {
         place: register,

@@ -17,7 +17,7 @@ use hm_beat::Touch;
 use hm_isa::{Below, QRegister};
 use hm_kinds::{Shape, Written, active, finish_row, read, touch_row};
 use hm_lane::{Size, bytes};
-use hm_lane_fns::{extended_long, word_at};
+use hm_lane_fns::{extended_long, word_place};
 use hm_regs::Regs;
 
 /// A sum of elements, or of products of elements, into two registers.
@@ -115,8 +115,8 @@ pub fn touch_long(row: &LongSums, b: u8, r: &Regs) -> Touch
     let low = Place::R(2 * (row.l.get() as u8));
     let high = Place::R(2 * (row.h.get() as u8) + 1);
     let mut sources = Places::new();
-    note(&mut sources, word_at(&row.m, b));
-    note(&mut sources, word_at(&row.n, b));
+    note(&mut sources, word_place(&row.m, b));
+    note(&mut sources, word_place(&row.n, b));
     note(&mut sources, high);
     note(&mut sources, low);
     let shape = Shape {
@@ -138,8 +138,8 @@ pub fn beat_long(row: &LongSums, b: u8, r: &mut Regs)
     let high = Place::R(2 * (row.h.get() as u8) + 1);
     let old_low = read(r, low);
     let old_high = read(r, high);
-    let x = read(r, word_at(&row.n, b));
-    let y = read(r, word_at(&row.m, b));
+    let x = read(r, word_place(&row.n, b));
+    let y = read(r, word_place(&row.m, b));
     let active = active(r, b);
     let sum = sum_word(row, active, x, y, start(row, b, old_low, old_high));
     let first = Written {

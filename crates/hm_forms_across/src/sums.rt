@@ -17,7 +17,7 @@ use hm_beat::Touch;
 use hm_isa::{Below, QRegister};
 use hm_kinds::{Shape, Written, active, finish_row, read, touch_row};
 use hm_lane::{Size, bytes};
-use hm_lane_fns::{half, word_at};
+use hm_lane_fns::{half, word_place};
 use hm_regs::Regs;
 
 /// A sum of elements, or of products of elements, into a register.
@@ -136,8 +136,8 @@ pub fn touch_sum(row: &Sums, b: u8, r: &Regs) -> Touch
 {
     let register = Place::R(2 * (row.l.get() as u8));
     let mut sources = Places::new();
-    note(&mut sources, word_at(&row.m, b));
-    note(&mut sources, word_at(&row.n, b));
+    note(&mut sources, word_place(&row.m, b));
+    note(&mut sources, word_place(&row.n, b));
     note(&mut sources, register);
     let shape = Shape {
         reads_slice: false,
@@ -156,8 +156,8 @@ pub fn beat_sum(row: &Sums, b: u8, r: &mut Regs)
 {
     let register = Place::R(2 * (row.l.get() as u8));
     let old = read(r, register);
-    let x = read(r, word_at(&row.n, b));
-    let y = read(r, word_at(&row.m, b));
+    let x = read(r, word_place(&row.n, b));
+    let y = read(r, word_place(&row.m, b));
     let active = active(r, b);
     let value = sum_word(row, active, x, y, start(row, b, old));
     let sum = Written {

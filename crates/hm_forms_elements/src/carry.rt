@@ -17,7 +17,7 @@ use hm_base::{Place, Places, note};
 use hm_beat::Touch;
 use hm_isa::{CarryName, V8};
 use hm_kinds::{Shape, Written, active, finish_row, read, touch_row};
-use hm_lane_fns::{merge, word_at};
+use hm_lane_fns::{merge, word_place};
 use hm_regs::Regs;
 
 /// Whether the second operand is taken away.
@@ -101,11 +101,11 @@ pub fn touch_carry(row: &V8, b: u8, r: &Regs) -> Touch
     ensures loads { result.loads.items ≡ [] }
     ensures stores { result.stores.items ≡ [] }
 {
-    let word = word_at(&row.d, b);
+    let word = word_place(&row.d, b);
     let mut sources = Places::new();
     note_carry(&mut sources, begins(row.name) && b == 0);
-    note(&mut sources, word_at(&row.m, b));
-    note(&mut sources, word_at(&row.n, b));
+    note(&mut sources, word_place(&row.m, b));
+    note(&mut sources, word_place(&row.n, b));
     note(&mut sources, word);
     let shape = Shape {
         reads_slice: false,
@@ -122,10 +122,10 @@ pub fn beat_carry(row: &V8, b: u8, r: &mut Regs)
     ensures done { (m : Memory) (output : List ℕ) → run (row_tree (carry_row row.now) b) r.old m output ≡ Ok (state_of r.new m output) }
     ensures context { r.new.fpca ≡ r.old.fpca }
 {
-    let place = word_at(&row.d, b);
+    let place = word_place(&row.d, b);
     let old = read(r, place);
-    let x = read(r, word_at(&row.n, b));
-    let y = read(r, word_at(&row.m, b));
+    let x = read(r, word_place(&row.n, b));
+    let y = read(r, word_place(&row.m, b));
     let flags = flags_before(row.name, b, r);
     let active = active(r, b);
     let sum = sum(subtracts(row.name), x, y, flags);

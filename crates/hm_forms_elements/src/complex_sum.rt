@@ -19,7 +19,7 @@ use hm_beat::Touch;
 use hm_isa::{ComplexSumName, V9};
 use hm_kinds::{Shape, Written, finish_row, read, touch_row};
 use hm_lane::{Size, bytes};
-use hm_lane_fns::{cut, halved, lane_value, merge_active, size, word_at};
+use hm_lane_fns::{cut, halved, lane_value, merge_active, size, word_place};
 use hm_regs::Regs;
 
 /// The other word of a pair; `b` is below 4.
@@ -114,9 +114,9 @@ fn second_word(row: &V9, b: u8) -> Place
     ensures body { is_body result ≡ true }
 {
     if row.z.get() == 2 {
-        word_at(&row.m, other_word(b))
+        word_place(&row.m, other_word(b))
     } else {
-        word_at(&row.m, b)
+        word_place(&row.m, b)
     }
 }
 
@@ -135,10 +135,10 @@ pub fn touch_complex_sum(row: &V9, b: u8, r: &Regs) -> Touch
     ensures loads { result.loads.items ≡ [] }
     ensures stores { result.stores.items ≡ [] }
 {
-    let word = word_at(&row.d, b);
+    let word = word_place(&row.d, b);
     let mut sources = Places::new();
     note(&mut sources, second_word(row, b));
-    note(&mut sources, word_at(&row.n, b));
+    note(&mut sources, word_place(&row.n, b));
     note(&mut sources, word);
     let shape = Shape {
         reads_slice: false,
@@ -155,9 +155,9 @@ pub fn beat_complex_sum(row: &V9, b: u8, r: &mut Regs)
     ensures done { (m : Memory) (output : List ℕ) → run (row_tree (complex_sum_row row.now) b) r.old m output ≡ Ok (state_of r.new m output) }
     ensures context { r.new.fpca ≡ r.old.fpca }
 {
-    let place = word_at(&row.d, b);
+    let place = word_place(&row.d, b);
     let old = read(r, place);
-    let x = read(r, word_at(&row.n, b));
+    let x = read(r, word_place(&row.n, b));
     let y = read(r, second_word(row, b));
     let new = complex_sum_word(row, size(&row.z), begins_even(row, b), x, y);
     let written = Written {

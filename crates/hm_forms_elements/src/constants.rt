@@ -14,7 +14,7 @@ use hm_beat::Touch;
 use hm_isa::V15;
 use hm_isa::words::imm8;
 use hm_kinds::{Shape, Written, finish_row, read, touch_row};
-use hm_lane_fns::{merge_active, word_at};
+use hm_lane_fns::{merge_active, word_place};
 use hm_regs::Regs;
 
 /// The eight bits of the immediate.
@@ -119,7 +119,7 @@ pub fn touch_constant(row: &V15, b: u8, r: &Regs) -> Touch
     ensures loads { result.loads.items ≡ [] }
     ensures stores { result.stores.items ≡ [] }
 {
-    let word = word_at(&row.d, b);
+    let word = word_place(&row.d, b);
     let mut sources = Places::new();
     note(&mut sources, word);
     let shape = Shape {
@@ -138,7 +138,7 @@ pub fn beat_constant(row: &V15, b: u8, r: &mut Regs)
     ensures done { (m : Memory) (output : List ℕ) → run (row_tree (constant_row row.now) b) r.old m output ≡ Ok (state_of r.new m output) }
     ensures context { r.new.fpca ≡ r.old.fpca }
 {
-    let word = word_at(&row.d, b);
+    let word = word_place(&row.d, b);
     let old = read(r, word);
     let new = constant_op(row, old, constant(row, b));
     let written = Written {

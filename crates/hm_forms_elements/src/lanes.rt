@@ -15,7 +15,7 @@ use hm_kinds::{Shape, Written, active, finish_row, read, touch_row};
 use hm_lane::Size;
 use hm_lane_fns::{
     LaneFn, Operand, any_both, lanes_saturate, lanes_word, merge_active, note_operand,
-    operand_word, saturates, word_at,
+    operand_word, saturates, word_place,
 };
 use hm_regs::Regs;
 
@@ -43,10 +43,10 @@ pub fn touch_lanes(l: &Lanes, b: u8, r: &Regs) -> Touch
     ensures loads { result.loads.items ≡ [] }
     ensures stores { result.stores.items ≡ [] }
 {
-    let word = word_at(&l.d, b);
+    let word = word_place(&l.d, b);
     let mut sources = Places::new();
     note_operand(&mut sources, &l.by, b);
-    note(&mut sources, word_at(&l.n, b));
+    note(&mut sources, word_place(&l.n, b));
     note(&mut sources, word);
     let shape = Shape {
         reads_slice: false,
@@ -63,9 +63,9 @@ pub fn beat_lanes(l: &Lanes, b: u8, r: &mut Regs)
     ensures done { (m : Memory) (output : List ℕ) → run (row_tree (lanes_row l.now) b) r.old m output ≡ Ok (state_of r.new m output) }
     ensures context { r.new.fpca ≡ r.old.fpca }
 {
-    let word = word_at(&l.d, b);
+    let word = word_place(&l.d, b);
     let old = read(r, word);
-    let x = read(r, word_at(&l.n, b));
+    let x = read(r, word_place(&l.n, b));
     let y = operand_word(l.z, &l.by, b, r);
     let new = lanes_word(l.f, l.unsigned, l.z, old, x, y);
     let marks = saturates(l.f)

@@ -15,7 +15,7 @@ use hm_beat::Touch;
 use hm_isa::{NarrowName, V16};
 use hm_kinds::{Shape, Written, active, finish_row, read, touch_row};
 use hm_lane::{Size, bytes, word};
-use hm_lane_fns::{any_both, clamped, cut, is_outside, lane_value, merge_active, word_at};
+use hm_lane_fns::{any_both, clamped, cut, is_outside, lane_value, merge_active, word_place};
 use hm_regs::Regs;
 
 /// Whether the operation saturates.
@@ -129,9 +129,9 @@ pub fn touch_narrow(row: &V16, b: u8, r: &Regs) -> Touch
     ensures loads { result.loads.items ≡ [] }
     ensures stores { result.stores.items ≡ [] }
 {
-    let word = word_at(&row.d, b);
+    let word = word_place(&row.d, b);
     let mut sources = Places::new();
-    note(&mut sources, word_at(&row.m, b));
+    note(&mut sources, word_place(&row.m, b));
     note(&mut sources, word);
     let shape = Shape {
         reads_slice: false,
@@ -148,9 +148,9 @@ pub fn beat_narrow(row: &V16, b: u8, r: &mut Regs)
     ensures done { (m : Memory) (output : List ℕ) → run (row_tree (narrow_row row.now) b) r.old m output ≡ Ok (state_of r.new m output) }
     ensures context { r.new.fpca ≡ r.old.fpca }
 {
-    let place = word_at(&row.d, b);
+    let place = word_place(&row.d, b);
     let old = read(r, place);
-    let x = read(r, word_at(&row.m, b));
+    let x = read(r, word_place(&row.m, b));
     let wide = row.z.get() == 1;
     let top = row.t.get() == 1;
     let new = narrow_word(wide, top, row.name, old, x);

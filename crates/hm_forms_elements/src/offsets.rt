@@ -20,7 +20,7 @@ use hm_beat::Touch;
 use hm_isa::{Below, OffsetsName, QRegister};
 use hm_kinds::{Shape, Written, finish_row, read, touch_row};
 use hm_lane::{Size, per_word};
-use hm_lane_fns::{merge_active, word_at};
+use hm_lane_fns::{merge_active, word_place};
 use hm_regs::Regs;
 
 /// Offsets from a register.
@@ -178,7 +178,7 @@ pub fn touch_offsets(row: &Steps, b: u8, r: &Regs) -> Touch
     ensures loads { result.loads.items ≡ [] }
     ensures stores { result.stores.items ≡ [] }
 {
-    let word = word_at(&row.d, b);
+    let word = word_place(&row.d, b);
     let mut sources = Places::new();
     note_round(&mut sources, row);
     note(&mut sources, first_place(row));
@@ -198,7 +198,7 @@ pub fn beat_offsets(row: &Steps, b: u8, r: &mut Regs)
     ensures done { (m : Memory) (output : List ℕ) → run (row_tree (offsets_row row.now) b) r.old m output ≡ Ok (state_of r.new m output) }
     ensures context { r.new.fpca ≡ r.old.fpca }
 {
-    let place = word_at(&row.d, b);
+    let place = word_place(&row.d, b);
     let old = read(r, place);
     let first = read(r, first_place(row));
     let m = round(row, r);

@@ -17,7 +17,7 @@ use hm_beat::Touch;
 use hm_isa::{ReverseName, V14};
 use hm_kinds::{Shape, Written, finish_row, read, touch_row};
 use hm_lane::{Size, bytes, word};
-use hm_lane_fns::{merge_active, size, word_at};
+use hm_lane_fns::{merge_active, size, word_place};
 use hm_regs::Regs;
 
 /// A word with its elements in reverse.
@@ -53,8 +53,8 @@ fn source(row: &V14, b: u8) -> Place
     ensures body { is_body result ≡ true }
 {
     match row.name {
-        ReverseName::Rev64 => word_at(&row.m, other_word(b)),
-        _ => word_at(&row.m, b),
+        ReverseName::Rev64 => word_place(&row.m, other_word(b)),
+        _ => word_place(&row.m, b),
     }
 }
 
@@ -66,7 +66,7 @@ pub fn touch_reversed(row: &V14, b: u8, r: &Regs) -> Touch
     ensures loads { result.loads.items ≡ [] }
     ensures stores { result.stores.items ≡ [] }
 {
-    let word = word_at(&row.d, b);
+    let word = word_place(&row.d, b);
     let mut sources = Places::new();
     note(&mut sources, source(row, b));
     note(&mut sources, word);
@@ -85,7 +85,7 @@ pub fn beat_reversed(row: &V14, b: u8, r: &mut Regs)
     ensures done { (m : Memory) (output : List ℕ) → run (row_tree (reversed_row row.now) b) r.old m output ≡ Ok (state_of r.new m output) }
     ensures context { r.new.fpca ≡ r.old.fpca }
 {
-    let place = word_at(&row.d, b);
+    let place = word_place(&row.d, b);
     let old = read(r, place);
     let x = read(r, source(row, b));
     let new = reversed_word(row.name, size(&row.z), x);

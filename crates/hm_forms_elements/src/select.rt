@@ -12,7 +12,7 @@ use hm_base::{Places, note};
 use hm_beat::Touch;
 use hm_isa::Select;
 use hm_kinds::{Shape, Written, finish_row, read, touch_row};
-use hm_lane_fns::{merge, merge_active, slice, truths, word_at};
+use hm_lane_fns::{merge, merge_active, slice, truths, word_place};
 use hm_regs::Regs;
 
 /// What beat `b` of `vpsel` touches: DDI0553, "VPSEL". `b` is below 4.
@@ -23,10 +23,10 @@ pub fn touch_select(row: &Select, b: u8, r: &Regs) -> Touch
     ensures loads { result.loads.items ≡ [] }
     ensures stores { result.stores.items ≡ [] }
 {
-    let word = word_at(&row.d, b);
+    let word = word_place(&row.d, b);
     let mut sources = Places::new();
-    note(&mut sources, word_at(&row.m, b));
-    note(&mut sources, word_at(&row.n, b));
+    note(&mut sources, word_place(&row.m, b));
+    note(&mut sources, word_place(&row.n, b));
     note(&mut sources, word);
     let shape = Shape {
         reads_slice: true,
@@ -43,10 +43,10 @@ pub fn beat_select(row: &Select, b: u8, r: &mut Regs)
     ensures done { (m : Memory) (output : List ℕ) → run (row_tree (select_row row.now) b) r.old m output ≡ Ok (state_of r.new m output) }
     ensures context { r.new.fpca ≡ r.old.fpca }
 {
-    let place = word_at(&row.d, b);
+    let place = word_place(&row.d, b);
     let old = read(r, place);
-    let x = read(r, word_at(&row.n, b));
-    let y = read(r, word_at(&row.m, b));
+    let x = read(r, word_place(&row.n, b));
+    let y = read(r, word_place(&row.m, b));
     let new = merge(truths(slice(r, b)), y, x);
     let written = Written {
         place,

@@ -13,7 +13,7 @@ use hm_base::{Place, Places, note};
 use hm_beat::Touch;
 use hm_isa::V17;
 use hm_kinds::{Shape, Written, active, finish_row, read, touch_row};
-use hm_lane_fns::{merge, word_at};
+use hm_lane_fns::{merge, word_place};
 use hm_regs::Regs;
 
 /// The shifted word, with bits of the register in its lower part.
@@ -43,7 +43,7 @@ pub fn touch_shift(row: &V17, b: u8, r: &Regs) -> Touch
     ensures loads { result.loads.items ≡ [] }
     ensures stores { result.stores.items ≡ [] }
 {
-    let word = word_at(&row.d, b);
+    let word = word_place(&row.d, b);
     let register = Place::R(row.m.get() as u8);
     let mut sources = Places::new();
     note(&mut sources, register);
@@ -63,7 +63,7 @@ pub fn beat_shift(row: &V17, b: u8, r: &mut Regs)
     ensures done { (m : Memory) (output : List ℕ) → run (row_tree (shift_row row.now) b) r.old m output ≡ Ok (state_of r.new m output) }
     ensures context { r.new.fpca ≡ r.old.fpca }
 {
-    let place = word_at(&row.d, b);
+    let place = word_place(&row.d, b);
     let register = Place::R(row.m.get() as u8);
     let c = read(r, place);
     let m = read(r, register);

@@ -18,7 +18,7 @@ use hm_beat::Touch;
 use hm_isa::{QRegister, V6};
 use hm_kinds::{Shape, Written, finish_row, read, touch_row};
 use hm_lane::{Size, bytes};
-use hm_lane_fns::{extended_long, merge_active, size, word_at};
+use hm_lane_fns::{extended_long, merge_active, size, word_place};
 use hm_regs::Regs;
 
 /// The product of two lanes.
@@ -101,9 +101,9 @@ fn source(row: &V6, q: &QRegister, b: u8) -> Place
     ensures body { is_body result ≡ true }
 {
     if row.z.get() == 2 {
-        word_at(q, 2 * (b / 2) + row.t.get() as u8)
+        word_place(q, 2 * (b / 2) + row.t.get() as u8)
     } else {
-        word_at(q, b)
+        word_place(q, b)
     }
 }
 
@@ -115,7 +115,7 @@ pub fn touch_wide(row: &V6, b: u8, r: &Regs) -> Touch
     ensures loads { result.loads.items ≡ [] }
     ensures stores { result.stores.items ≡ [] }
 {
-    let word = word_at(&row.d, b);
+    let word = word_place(&row.d, b);
     let mut sources = Places::new();
     note(&mut sources, source(row, &row.m, b));
     note(&mut sources, source(row, &row.n, b));
@@ -135,7 +135,7 @@ pub fn beat_wide(row: &V6, b: u8, r: &mut Regs)
     ensures done { (m : Memory) (output : List ℕ) → run (row_tree (wide_row row.now) b) r.old m output ≡ Ok (state_of r.new m output) }
     ensures context { r.new.fpca ≡ r.old.fpca }
 {
-    let place = word_at(&row.d, b);
+    let place = word_place(&row.d, b);
     let old = read(r, place);
     let x = read(r, source(row, &row.n, b));
     let y = read(r, source(row, &row.m, b));

@@ -16,7 +16,7 @@ use hm_beat::Touch;
 use hm_isa::QRegister;
 use hm_kinds::{Shape, Written, finish_row, read, touch_row};
 use hm_lane::{Size, bytes};
-use hm_lane_fns::{extended_long, merge_active, word_at};
+use hm_lane_fns::{extended_long, merge_active, word_place};
 use hm_regs::Regs;
 
 /// Elements made longer and shifted.
@@ -79,9 +79,9 @@ pub fn touch_widening(row: &Widening, b: u8, r: &Regs) -> Touch
     ensures loads { result.loads.items ≡ [] }
     ensures stores { result.stores.items ≡ [] }
 {
-    let word = word_at(&row.d, b);
+    let word = word_place(&row.d, b);
     let mut sources = Places::new();
-    note(&mut sources, word_at(&row.m, b));
+    note(&mut sources, word_place(&row.m, b));
     note(&mut sources, word);
     let shape = Shape {
         reads_slice: false,
@@ -98,9 +98,9 @@ pub fn beat_widening(row: &Widening, b: u8, r: &mut Regs)
     ensures done { (m : Memory) (output : List ℕ) → run (row_tree (widening_row row.now) b) r.old m output ≡ Ok (state_of r.new m output) }
     ensures context { r.new.fpca ≡ r.old.fpca }
 {
-    let place = word_at(&row.d, b);
+    let place = word_place(&row.d, b);
     let old = read(r, place);
-    let x = read(r, word_at(&row.m, b));
+    let x = read(r, word_place(&row.m, b));
     let new = widening_word(row, x);
     let written = Written {
         place,

@@ -15,7 +15,7 @@ use hm_beat::Touch;
 use hm_isa::{Below, QRegister};
 use hm_kinds::{Shape, active, finish_row, read, touch_row};
 use hm_lane::{Size, bytes};
-use hm_lane_fns::{Operand, both, lane_value, nibble, note_operand, operand_word, word_at};
+use hm_lane_fns::{Operand, both, lane_value, nibble, note_operand, operand_word, word_place};
 use hm_regs::Regs;
 
 /// Comparisons of the elements of two operands.
@@ -95,7 +95,7 @@ pub fn touch_compare(row: &Comparison, b: u8, r: &Regs) -> Touch
 {
     let mut sources = Places::new();
     note_operand(&mut sources, &row.by, b);
-    note(&mut sources, word_at(&row.n, b));
+    note(&mut sources, word_place(&row.n, b));
     let shape = Shape {
         reads_slice: false,
         slice: true,
@@ -111,7 +111,7 @@ pub fn beat_compare(row: &Comparison, b: u8, r: &mut Regs)
     ensures done { (m : Memory) (output : List ℕ) → run (row_tree (compare_row row.now) b) r.old m output ≡ Ok (state_of r.new m output) }
     ensures context { r.new.fpca ≡ r.old.fpca }
 {
-    let x = read(r, word_at(&row.n, b));
+    let x = read(r, word_place(&row.n, b));
     let y = operand_word(row.z, &row.by, b, r);
     let active = active(r, b);
     let slice = nibble(both(compare_word(row.c.get(), row.z, x, y), active));

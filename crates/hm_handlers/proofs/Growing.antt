@@ -4,7 +4,7 @@ use Rattle.std.proofs.Common.{Result, Ok, Err, inl, inr, ⊎_elim, refl, sym, �
 use Rattle.std.proofs.lemmas.Bool.Decides.{nat_tests}
 use Rattle.hm_base.specs.declared.Stop.{Stop}
 use Rattle.hm_isa.specs.declared.Instr.{Instr}
-use Rattle.hm_mem.specs.Devices.{IsLen, sets_pending, word_at}
+use Rattle.hm_mem.specs.Devices.{IsLen, sets_pending, device_word}
 use Rattle.hm_mem.specs.Memory.{Around, thread_under, Bounds}
 use Rattle.hm_mem.specs.Seen.{Seen, after_load, after_store, covers, fault_kind, is_allowed, is_denied, lies_in_sram, marks, some_byte}
 use Rattle.hm_mem.specs.Seen.{stop_of}
@@ -107,7 +107,7 @@ module _ (frame : ℕ) (bounds : Bounds) where
       → Allowed frame bounds (a + k)
   all_allowed len a is lies free k l =
       let bytes : some_byte len (λ b. not (is_allowed bounds frame b)) a ≡ false
-      = sym (ap (λ (q : Bool). cond q (some_byte len (λ b. not (is_allowed bounds frame b)) a) (not (sets_pending (word_at a)))) lies) ∙ free in
+      = sym (ap (λ (q : Bool). cond q (some_byte len (λ b. not (is_allowed bounds frame b)) a) (not (sets_pending (device_word a)))) lies) ∙ free in
       not_false (is_allowed bounds frame (a + k)) (free_at (λ b. not (is_allowed bounds frame b)) a len is bytes k l)
 
   store_grows : (how : Access) (len a v : ℕ) (s : Seen) → IsLen len → stop_of x how true len a s ≡ None

@@ -4,7 +4,7 @@ use Rattle.std.specs.Prelude.{Option, Some, None, Result, Ok, Err, IfOk, All, na
 use Rattle.std.proofs.lemmas.List.Elements.{All-append, All-drop, All-map, All-replicate, All-take}
 use Rattle.std.specs.List.{range_with_len}
 use Rattle.hm_isa.specs.declared.Instr.{Instr}
-use Rattle.hm_mem.specs.Devices.{after_read, byte_of, put_prios, top_three, word_at, write_devices}
+use Rattle.hm_mem.specs.Devices.{after_read, byte_of, put_prios, top_three, device_word, write_devices}
 use Rattle.hm_mem.specs.Memory.{first_devices}
 use Rattle.hm_mem.specs.Seen.{Seen, after_load, after_store, lies_in_sram}
 use Rattle.hm_mem.specs.declared.Dev.{Dev}
@@ -47,13 +47,13 @@ write-levels d None len a x h = h
 
 loads-levels : (len n a : ℕ) (s : Seen) → HasLevels s.devices → HasLevels (after_loads len n a s).devices
 loads-levels len zero a s h = h
-loads-levels len (suc n) a s h = loads-levels len n (behind len a) (after_load a s) (read-levels s.devices (word_at a) h)
+loads-levels len (suc n) a s h = loads-levels len n (behind len a) (after_load a s) (read-levels s.devices (device_word a) h)
 
 stores-levels : (marks : Bool) (len a : ℕ) (xs : List ℕ) (s : Seen) → HasLevels s.devices → HasLevels (after_stores marks len a xs s).devices
 stores-levels marks len a [] s h = h
 stores-levels marks len a (x ∷ xs) s h =
     stores-levels marks len (behind len a) xs (after_store marks len a x s)
-    (either HasLevels (lies_in_sram len a) s.devices (write_devices s.devices (word_at a) len a x) h (write-levels s.devices (word_at a) len a x h))
+    (either HasLevels (lies_in_sram len a) s.devices (write_devices s.devices (device_word a) len a x) h (write-levels s.devices (device_word a) len a x h))
 
 module _ {E : Type 0} (R : Runner E) where
   abbrev HasLevelsDone : Done → Type 0

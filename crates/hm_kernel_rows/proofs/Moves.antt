@@ -21,7 +21,7 @@ use Rattle.hm_lane.specs.Lanes.{firsts, unlanes}
 use Rattle.hm_lane.proofs.LaneLists.{lanes-unlanes}
 use Rattle.hm_lane_fns.specs.Words.{filled as spread_tests, size_of}
 use Rattle.hm_mem.specs.declared.Access.TheVariants.{Vector}
-use Rattle.hm_mem.specs.Devices.{has_width, tells_time, word_at}
+use Rattle.hm_mem.specs.Devices.{has_width, tells_time, device_word}
 use Rattle.hm_mem.specs.Seen.{fault_kind}
 use Rattle.hm_base.specs.Results.{unless}
 use Rattle.hm_moves.specs.Moves.{fault_after, byte_count}
@@ -54,7 +54,7 @@ le_yes a b h = grind (arith, nat_tests)
 eq_yes : (w : ℕ) → w ≡ 0 → nat_eq w 0 ≡ true
 eq_yes w h = grind (arith, nat_tests)
 
-no_device : (a : ℕ) → a < 0x20040000 → word_at a ≡ None
+no_device : (a : ℕ) → a < 0x20040000 → device_word a ≡ None
 no_device a h = grind (arith, nat_tests, h)
 
 no_fault : (store : Bool) (len a : ℕ) → a % len ≡ 0 → 0x20000000 ≤ a → 0 < len → a + len ≤ 0x20040000 → fault_kind true Vector store len a ≡ None
@@ -67,7 +67,7 @@ no_fault store len a aligned low some high =
     let none = no_device a (omega arith) in
     (λ j. if not (al j) then Some kind.Unaligned
     else (if dev j && nat_le a 0xe000efff then Some kind.DeviceVector
-    else (if not ((fl j || (lo j && hi j)) || has_width (word_at a) len) then Some kind.Bus
+    else (if not ((fl j || (lo j && hi j)) || has_width (device_word a) len) then Some kind.Bus
     else (if store && fl j then Some kind.FlashWrite
     else (if not store && tells_time (none j) then Some kind.TimedRead
     else None)))))

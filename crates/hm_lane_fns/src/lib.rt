@@ -10,5 +10,5 @@ pub use functions::{
 };
 pub use words::{
     Operand, any_both, both, element_size, lanes_saturate, lanes_word, merge, merge_active, nibble,
-    note_operand, operand_word, size, slice, splat, truths, word_at,
+    note_operand, operand_word, size, slice, splat, truths, word_place,
 };

@@ -23,8 +23,8 @@ word_with (number n) rest = None
 word_with (mark c) rest = None
 
 -- the word that is the first token of a text, and what stands behind it; None where no word is first
-abbrev pub word_at : List ℕ → Option (List ℕ × List ℕ)
-word_at text = option_and_then (λ x. word_with x.0 x.1) (token_at (skip text))
+abbrev pub word_in_front : List ℕ → Option (List ℕ × List ℕ)
+word_in_front text = option_and_then (λ x. word_with x.0 x.1) (token_at (skip text))
 
 -- what stands behind a `:` at the front
 abbrev pub colon_with : Tok → List ℕ → Option (List ℕ)
@@ -38,7 +38,7 @@ behind_colon text = option_and_then (λ x. colon_with x.0 x.1) (token_at (skip t
 
 -- the first word and what stands behind its `:`, where `:` follows it
 abbrev pub label_of : List ℕ → Option (List ℕ × List ℕ)
-label_of text = option_and_then (λ x. option_map (λ rest. (x.0, rest)) (behind_colon x.1)) (word_at text)
+label_of text = option_and_then (λ x. option_map (λ rest. (x.0, rest)) (behind_colon x.1)) (word_in_front text)
 
 -- that word is no name for a label
 abbrev pub is_bad : Option (List ℕ × List ℕ) → Bool

@@ -2,7 +2,7 @@
 
 ghost use Rattle.std.specs.Prelude.{◌≡◌, ◌≤◌, ◌↔◌, ℕ, length, IfOk, IfSome, IsOk, Err, option_map};
 ghost use Rattle.hm_text_base.specs.Reading.{ReadsSome};
-ghost use Rattle.hm_line.specs.Sources.{before_comment, behind_colon, has_bad_label, instruction_of, label_of, word_at, IsLine, IsLineRefused};
+ghost use Rattle.hm_line.specs.Sources.{before_comment, behind_colon, has_bad_label, instruction_of, label_of, word_in_front, IsLine, IsLineRefused};
 ghost use Rattle.hm_line.specs.Texts.{IsOfForm, IsRefused, column};
 ghost use Rattle.hm_tokens.specs.Tokens.{skip};
 
@@ -25,8 +25,8 @@ pub struct SourceLine<'a> {
 }
 
 /// A word at the front, and what stands behind it.
-fn word_at(text: &[u8]) -> Option<(&[u8], &[u8])>
-    ensures read { ReadsSome (λ x. (x.0.now, x.1.now)) result (word_at text.now) }
+fn word_in_front(text: &[u8]) -> Option<(&[u8], &[u8])>
+    ensures read { ReadsSome (λ x. (x.0.now, x.1.now)) result (word_in_front text.now) }
     ensures shorter { IfSome result (λ x. length x.1.now ≤ length text.now) }
 {
     let (token, rest) = token_at(skip(text))?;
@@ -53,7 +53,7 @@ fn label_of(text: &[u8]) -> Option<(&[u8], &[u8])>
     ensures read { ReadsSome (λ x. (x.0.now, x.1.now)) result (label_of text.now) }
     ensures shorter { IfSome result (λ x. length x.1.now ≤ length text.now) }
 {
-    let (word, rest) = word_at(text)?;
+    let (word, rest) = word_in_front(text)?;
     let behind = behind_colon(rest)?;
     Some((word, behind))
 }

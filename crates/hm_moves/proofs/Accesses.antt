@@ -7,13 +7,13 @@ use Rattle.hm_base.specs.declared.FaultKind.{FaultKind}
 use Rattle.hm_base.specs.declared.FaultKind.TheVariants as kind
 use Rattle.hm_lane.specs.declared.lanes.Size.{Size}
 use Rattle.hm_mem.specs.declared.Access.TheVariants.{Vector}
-use Rattle.hm_mem.specs.Devices.{byte_of, has_width, in_devices, word_at}
+use Rattle.hm_mem.specs.Devices.{byte_of, has_width, in_devices, device_word}
 use Rattle.hm_mem.specs.Memory.{Around}
 use Rattle.hm_mem.specs.Seen.{Seen, fault_kind, is_kept, is_thread, is_unaligned, lies_in_flash, lies_in_memory, lies_in_sram, stop_after, stop_of}
 use Rattle.hm_moves.specs.Moves.{byte_count}
 
 -- WHERE A VECTOR ACCESS LIES THAT HAS NO FAULT
-no_word : (a : ℕ) → in_devices a ≡ false → word_at a ≡ None
+no_word : (a : ℕ) → in_devices a ≡ false → device_word a ≡ None
 no_word a out = grind (arith, nat_tests, out)
 
 some_none : {A P : Type 0} {x : A} → Some x ≡ None → P
@@ -29,9 +29,9 @@ pub in_memory : (thread store : Bool) (len a : ℕ) → fault_kind thread Vector
 in_memory thread store len a h =
     let one = not_taken (is_unaligned Vector len a) kind.Unaligned _ h in
     let two = not_taken (true && in_devices a) kind.DeviceVector _ one.1 in
-    let three = not_taken (not (lies_in_memory len a || has_width (word_at a) len)) kind.Bus _ two.1 in
+    let three = not_taken (not (lies_in_memory len a || has_width (device_word a) len)) kind.Bus _ two.1 in
     let four = not_taken (store && lies_in_flash len a) kind.FlashWrite _ three.1 in
-    (lies (lies_in_memory len a) (has_width (word_at a) len) three.0 (ap (λ w. has_width w len) (no_word a two.0)), four.0)
+    (lies (lies_in_memory len a) (has_width (device_word a) len) three.0 (ap (λ w. has_width w len) (no_word a two.0)), four.0)
   where
     lies : (p q : Bool) → not (p || q) ≡ false → q ≡ false → p ≡ true
     lies true q e f = refl

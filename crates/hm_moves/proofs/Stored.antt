@@ -7,7 +7,7 @@ use Rattle.std.proofs.Math.Nat.{mod-eq_of_lt}
 use Rattle.hm_regs.specs.declared.Regs.{Regs}
 use Rattle.hm_lane.specs.declared.lanes.Size.{Size}
 use Rattle.hm_mem.specs.declared.Dev.{Dev}
-use Rattle.hm_mem.specs.Devices.{byte_of, word_at, write_devices}
+use Rattle.hm_mem.specs.Devices.{byte_of, device_word, write_devices}
 use Rattle.hm_mem.specs.Memory.{Memory, byte_at, tainted_at}
 use Rattle.hm_mem.specs.Seen.{Seen, after_store, covers, lies_in_sram, seen}
 use Rattle.hm_state.specs.Store.{put, put_all}
@@ -109,7 +109,7 @@ put_state m n r output t z e ws lies same around =
 
     devices : n.devices ≡ m.devices
     devices = ap (λ (s : Seen). s.devices) same
-        ∙ first_kept (lies_in_sram (byte_count z) e.addr) m.devices (write_devices m.devices (word_at e.addr) (byte_count z) e.addr x) lies
+        ∙ first_kept (lies_in_sram (byte_count z) e.addr) m.devices (write_devices m.devices (device_word e.addr) (byte_count z) e.addr x) lies
 
     each : (c : Cell) → (state_of r n output).cell c ≡ (put_all cells vs (state_of r m output)).cell c
     each (At p) = sym (put_other vs (At p) (state_of r m output) (off_bytes t e ws 0 (span_bytes e.addr (byte_count z)) p))

@@ -6,7 +6,7 @@ use Rattle.hm_text_base.proofs.SpanLaws.{span_parts}
 use Rattle.hm_text_base.proofs.Steps.{and_then_some, some_is, test_some}
 use Rattle.hm_tokens.specs.declared.token.Class.TheVariants as classes
 use Rattle.hm_tokens.specs.Tokens.{Tok, word, number, mark, skip, token_at}
-use Rattle.hm_line.specs.Sources.{before_comment, behind_colon, behind_label, colon_with, label_of, word_at, word_with}
+use Rattle.hm_line.specs.Sources.{before_comment, behind_colon, behind_label, colon_with, label_of, word_in_front, word_with}
 use Rattle.hm_line.proofs.Fronts.{run_le, token_shorter}
 use Rattle.hm_source.specs.Lines.{text_of}
 
@@ -27,7 +27,7 @@ word_rest (word w) r x e = ap (λ (y : List ℕ × List ℕ). length y.1) (some_
 word_rest (number n) r x e = absurd cc
 word_rest (mark c) r x e = absurd cc
 
-behind_word : (text : List ℕ) (x : List ℕ × List ℕ) → word_at text ≡ Some x → length x.1 ≤ length text
+behind_word : (text : List ℕ) (x : List ℕ × List ℕ) → word_in_front text ≡ Some x → length x.1 ≤ length text
 behind_word text x e =
     let p = and_then_some (token_at (skip text)) (λ y. word_with y.0 y.1) x e in
     omega (arith, skip_le text, token_shorter (skip text) p.0 p.1, word_rest p.0.0 p.0.1 x p.2)
@@ -49,7 +49,7 @@ map_some None f y e = absurd cc
 label_le : (text : List ℕ) (o : Option (List ℕ × List ℕ)) → label_of text ≡ o → length (behind_label text o) ≤ length text
 label_le text None e = omega arith
 label_le text (Some x) e =
-    let p = and_then_some (word_at text) (λ y. option_map (λ rest. (y.0, rest)) (behind_colon y.1)) x e in
+    let p = and_then_some (word_in_front text) (λ y. option_map (λ rest. (y.0, rest)) (behind_colon y.1)) x e in
     let q = map_some (behind_colon p.0.1) (λ (rest : List ℕ). (p.0.0, rest)) x p.2 in
     let same : length q.0 ≡ length x.1 = ap (λ (y : List ℕ × List ℕ). length y.1) q.2 in
     omega (arith, behind_word text p.0 p.1, colon_le p.0.1 q.0 q.1, same)

@@ -6,7 +6,7 @@ ghost use Rattle.hm_source.specs.Shown.{AreFront, ShowsDirected};
 ghost use Rattle.hm_tokens.specs.Lines.{AreTokensOf};
 ghost use Rattle.hm_tokens.specs.Tokens.{number, word};
 
-use crate::tokens::{number_at, word_at};
+use crate::tokens::{number_at, word_in_front};
 use crate::values::{DatumSize, Values, read_values};
 use hm_tokens::skip;
 
@@ -120,6 +120,6 @@ pub fn read_directive(text: &[u8]) -> Option<Directive<'_>>
     ensures only { (asked : Directed) → IsDirective text.now asked → IsSomeAnd result (λ d. ShowsDirected text.now d asked) }
     ensures none { IfNone result ((asked : Directed) → IsDirective text.now asked → ⊥) }
 {
-    let (name, behind) = word_at(text)?;
+    let (name, behind) = word_in_front(text)?;
     asked_of(name, behind)
 }

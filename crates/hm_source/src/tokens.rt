@@ -17,7 +17,7 @@ pub fn next_token(text: &[u8]) -> Option<(Token<'_>, &[u8])>
 }
 
 /// A word at the front of a text, and what stands behind it.
-pub fn word_at(text: &[u8]) -> Option<(&[u8], &[u8])>
+pub fn word_in_front(text: &[u8]) -> Option<(&[u8], &[u8])>
     ensures found { IfSome result (λ x. AreFront text.now (word x.0.now ∷ []) x.1.now) }
     ensures only { (w rest : List ℕ) → AreFront text.now (word w ∷ []) rest → IsSomeAnd result (λ x. (x.0.now ≡ w) × (x.1.now ≡ rest)) }
     ensures shorter { IfSome result (λ x. length x.1.now < length text.now) }

@@ -6,7 +6,7 @@ use Rattle.std.specs.Prelude.{Some, Result, Ok, nat_eq, nat_le, nat_lt}
 use native.Mathlib.Nat.{mod-eq_of_lt}
 use Rattle.hm_base.specs.declared.FaultKind.{FaultKind}
 use Rattle.hm_base.specs.declared.FaultKind.TheVariants.{Bus}
-use Rattle.hm_mem.specs.Devices.{has_width, word_at}
+use Rattle.hm_mem.specs.Devices.{has_width, device_word}
 use Rattle.hm_mem.specs.Memory.{thread_under, Bounds}
 use Rattle.hm_mem.specs.Seen.{Seen, fault_kind, is_kept, read, stop_after}
 use Rattle.hm_base.specs.Results.{unless}
@@ -20,11 +20,11 @@ abbrev pub IsBad : ℕ → Type 0
 IsBad a = (k : FaultKind) × (fault_kind true Scalar false 1 a ≡ Some k)
 
 -- the widths of devices: the words of priorities alone are read by bytes
-narrow : (a : ℕ) → has_width (word_at a) 1 ≡ true → ((0xe000e400 ≤ a) × (a < 0xe000e4f0)) ⊎ ((0xe000ed20 ≤ a) × (a < 0xe000ed24))
+narrow : (a : ℕ) → has_width (device_word a) 1 ≡ true → ((0xe000e400 ≤ a) × (a < 0xe000e4f0)) ⊎ ((0xe000ed20 ≤ a) × (a < 0xe000ed24))
 narrow a h = grind (arith, nat_tests, h)
 
 -- where no byte is flash, SRAM or a priority, it is bad
-bad : (a : ℕ) → 0x100000 ≤ a → (a < 0x20000000) ⊎ (0x20040000 ≤ a) → has_width (word_at a) 1 ≡ false → IsBad a
+bad : (a : ℕ) → 0x100000 ≤ a → (a < 0x20000000) ⊎ (0x20040000 ≤ a) → has_width (device_word a) 1 ≡ false → IsBad a
 bad a past (inl below) narrow = (Bus, grind arith)
 bad a past (inr above) narrow = (Bus, grind arith)
 
@@ -67,7 +67,7 @@ module _ {E : Type 0} (R : Runner E) (s : Seen) where
   enough_here ended m a up fits is = enough_to ended m a a up is (omega arith) fits (omega (arith, most_is))
 
   -- by where the text begins: in flash; before SRAM or behind it, at a priority or not; or in SRAM
-  by_priority : IsEnded → (m a : ℕ) → most_text ≤ m → a < 2 ^ 32 → 0x100000 ≤ a → (a < 0x20000000) ⊎ (0x20040000 ≤ a) → (b : Bool) → has_width (word_at a) 1 ≡ b
+  by_priority : IsEnded → (m a : ℕ) → most_text ≤ m → a < 2 ^ 32 → 0x100000 ≤ a → (a < 0x20000000) ⊎ (0x20040000 ≤ a) → (b : Bool) → has_width (device_word a) 1 ≡ b
       → text R m a s ≡ text R most_text a s
   by_priority ended m a up fits past outside false e = enough_here ended m a up fits (bad a past outside e)
   by_priority ended m a up fits past outside true e = at_priority (narrow a e)
@@ -78,8 +78,8 @@ module _ {E : Type 0} (R : Runner E) (s : Seen) where
 
   by_sram : IsEnded → (m a : ℕ) → most_text ≤ m → a < 2 ^ 32 → 0x100000 ≤ a → (b c : Bool) → nat_lt a 0x20000000 ≡ b → nat_le 0x20040000 a ≡ c
       → text R m a s ≡ text R most_text a s
-  by_sram ended m a up fits past true c below above = by_priority ended m a up fits past (inl (grind (arith, nat_tests))) (has_width (word_at a) 1) refl
-  by_sram ended m a up fits past false true below above = by_priority ended m a up fits past (inr (grind (arith, nat_tests))) (has_width (word_at a) 1) refl
+  by_sram ended m a up fits past true c below above = by_priority ended m a up fits past (inl (grind (arith, nat_tests))) (has_width (device_word a) 1) refl
+  by_sram ended m a up fits past false true below above = by_priority ended m a up fits past (inr (grind (arith, nat_tests))) (has_width (device_word a) 1) refl
   by_sram ended m a up fits past false false below above =
       let low : 0x20000000 ≤ a = grind (arith, nat_tests) in
       let high : a < 0x20040000 = grind (arith, nat_tests) in
