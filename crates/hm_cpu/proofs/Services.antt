@@ -10,8 +10,7 @@ use Rattle.hm_mem.specs.declared.Access.TheVariants.{Scalar}
 use Rattle.hm_regs.specs.Place.{Counted}
 use Rattle.hm_regs.specs.declared.Regs.{Regs}
 use Rattle.hm_run.specs.declared.Cause.TheVariants as cause
-use Rattle.hm_run.specs.Program.{answered, broken_by, caused, in_machine, most_output, printed, served_by}
-use Rattle.hm_run.specs.Stops as why
+use Rattle.hm_run.specs.Program.{answered, breakpoint, by_machine, cause_of, caused, most_output, printed, served}
 use Rattle.hm_state.proofs.Registers.{registers_are}
 use Rattle.hm_state.specs.State.{State, regs_of, state_of}
 use Rattle.hm_order.specs.Beats.{then}
@@ -102,19 +101,19 @@ printed_is r m output xs n f v =
 
 -- by whether the output has room
 pub prints : (r : Regs) (m : Memory) (output xs : List ℕ) → Counted r → r.fpscr < 2 ^ 32 → r.vpr < 2 ^ 32 → length output + length xs ≤ most_output
-    → Ok (state_of (settled 2 way.On r) m (output ++ xs)) ≡ in_machine (answered (state_of r m output) (Writes xs))
+    → Ok (state_of (settled 2 way.On r) m (output ++ xs)) ≡ answered cause_of (state_of r m output) (Writes xs)
 unfolding state_of
 prints r m output xs n f v room =
     let test : nat_lt most_output (length output + length xs) ≡ false = grind (arith, nat_tests, room) in
     ap Ok (printed_is r m output xs n f v)
-    ∙ ap (λ b. in_machine (cond b (Err why.Full) (Ok (printed xs (state_of r m output))))) (sym test)
+    ∙ ap (λ b. cond b (Err cause.Full) (Ok (printed xs (state_of r m output)))) (sym test)
 
 pub is_full : (r : Regs) (m : Memory) (output xs : List ℕ) → most_output < length output + length xs
-    → Err cause.Full ≡ in_machine (answered (state_of r m output) (Writes xs))
+    → Err cause.Full ≡ answered cause_of (state_of r m output) (Writes xs)
 unfolding state_of
 is_full r m output xs full =
     let test : nat_lt most_output (length output + length xs) ≡ true = grind (arith, nat_tests, full) in
-    ap (λ b. in_machine (cond b (Err why.Full) (Ok (printed xs (state_of r m output))))) (sym test)
+    ap (λ b. cond b (Err cause.Full) (Ok (printed xs (state_of r m output)))) (sym test)
 
 seen_there : (r : Regs) (m : Memory) (output : List ℕ) → seen_in (state_of r m output) ≡ seen m
 unfolding state_of
@@ -123,13 +122,13 @@ seen_there r m output = refl
 -- what is asked, from the registers and the memory that make a state
 pub asked_there : (r : Regs) (m : Memory) (output : List ℕ) → Counted r → r.fpscr < 2 ^ 32 → r.vpr < 2 ^ 32
     → (q : Result Asked Stop) → q ≡ asked (runner.in_machine m.around) r (seen m)
-    → then (caused q) (λ x. in_machine (answered (state_of r m output) x)) ≡ served_by m.around (state_of r m output)
+    → then (caused q) (answered cause_of (state_of r m output)) ≡ served (by_machine m.around) (state_of r m output)
 asked_there r m output n f v q e =
     let s = state_of r m output in
-    let from = λ (t : Regs) (y : Seen). then (caused (asked (runner.in_machine m.around) t y)) (λ x. in_machine (answered s x)) in
-    ap (λ z. then (caused z) (λ x. in_machine (answered s x))) e
+    let from = λ (t : Regs) (y : Seen). then (caused (asked (runner.in_machine m.around) t y)) (answered cause_of s) in
+    ap (λ z. then (caused z) (answered cause_of s)) e
     ∙ ap (λ (t : Regs). from t (seen m)) (sym (registers_are r m output n f v))
     ∙ ap (λ (y : Seen). from (regs_of s) y) (sym (seen_there r m output))
 
-pub serves : (around : Around) (k : ℕ) (s : State) → k ≡ 171 → served_by around s ≡ broken_by around k s
-serves around k s e = ap (λ (n : ℕ). broken_by around n s) (sym e)
+pub serves : (around : Around) (k : ℕ) (s : State) → k ≡ 171 → served (by_machine around) s ≡ breakpoint (by_machine around) k s
+serves around k s e = ap (λ (n : ℕ). breakpoint (by_machine around) n s) (sym e)

@@ -28,8 +28,8 @@ use Rattle.hm_rows.specs.Rows.{refuse, vector_tree}
 use Rattle.hm_run.proofs.Steps.{break_makes, makes_other, makes_row, no_row, older_vector, older_other, other_is, past}
 use Rattle.hm_run.specs.declared.Cause.{Cause}
 use Rattle.hm_run.specs.declared.Cause.TheVariants as cause
-use Rattle.hm_run.specs.Program.{Program, broken_by, caused, core, done_in_machine, in_machine, made_here, makes_here, other_by, other_here, rows}
-use Rattle.hm_run.specs.Program.{unless_refused, vector_of}
+use Rattle.hm_run.specs.Program.{Program, breakpoint, by_machine, caused, core, done_as, in_machine, made_here, makes_here}
+use Rattle.hm_run.specs.Program.{other_here, other_row, rows, unless_refused, vector_of}
 use Rattle.hm_run.specs.Stops.{at_break, break_of}
 use Rattle.hm_state.proofs.Beside.{pc_is}
 use Rattle.hm_state.proofs.Registers.{registers_are}
@@ -178,7 +178,7 @@ module _ (listing : Listing) (x : Cpu) where
     row_none = ap vector_of here ∙ no_row i other
 
     -- what a step of it comes to
-    other_comes : (r : Result State Cause) → other_by (memory_of x.mem).around i (state_in x) ≡ r
+    other_comes : (r : Result State Cause) → other_row (by_machine (memory_of x.mem).around) i (state_in x) ≡ r
         → older M (config_of x) ≡ done M (config_of x) r (past (config_of x))
     unfolding state_of
     other_comes r e =
@@ -190,24 +190,25 @@ module _ (listing : Listing) (x : Cpu) where
     makes_is r = ap (λ (z : Result Instr Fault). makes_here z r) here ∙ makes_other i r other
 
     -- a breakpoint, and any other
-    pub by_break : (k : ℕ) → Some k ≡ break_of i → other_by (memory_of x.mem).around i (state_in x) ≡ broken_by (memory_of x.mem).around k (state_in x)
-    by_break k is = ap (λ (o : Option ℕ). at_break (λ k. broken_by (memory_of x.mem).around k (state_in x)) o
-        (done_in_machine (scalar_in_machine (memory_of x.mem).around i (state_in x)))) (sym is)
+    pub by_break : (k : ℕ) → Some k ≡ break_of i
+        → other_row (by_machine (memory_of x.mem).around) i (state_in x) ≡ breakpoint (by_machine (memory_of x.mem).around) k (state_in x)
+    by_break k is = ap (λ (o : Option ℕ). at_break (λ k. breakpoint (by_machine (memory_of x.mem).around) k (state_in x)) o
+        (done_as cause.Stop (scalar_in_machine (memory_of x.mem).around i (state_in x)))) (sym is)
 
     pub by_none : None ≡ break_of i
-        → other_by (memory_of x.mem).around i (state_in x) ≡ done_in_machine (scalar_in_machine (memory_of x.mem).around i (state_in x))
-    by_none is = ap (λ (o : Option ℕ). at_break (λ k. broken_by (memory_of x.mem).around k (state_in x)) o
-        (done_in_machine (scalar_in_machine (memory_of x.mem).around i (state_in x)))) (sym is)
+        → other_row (by_machine (memory_of x.mem).around) i (state_in x) ≡ done_as cause.Stop (scalar_in_machine (memory_of x.mem).around i (state_in x))
+    by_none is = ap (λ (o : Option ℕ). at_break (λ k. breakpoint (by_machine (memory_of x.mem).around) k (state_in x)) o
+        (done_as cause.Stop (scalar_in_machine (memory_of x.mem).around i (state_in x)))) (sym is)
 
     -- one that is done
-    pub other_done : (t : State) → other_by (memory_of x.mem).around i (state_in x) ≡ Ok t
+    pub other_done : (t : State) → other_row (by_machine (memory_of x.mem).around) i (state_in x) ≡ Ok t
         → Ok (record { a = 0; b = 0; n = x.retired + 1; steps = x.older_steps + 1; state = t }) ≡ older M (config_of x)
     unfolding state_of
     other_done t going =
         (λ j. Ok (record { a = 0; b = 0; n = add-one x.retired j; steps = add-one x.older_steps j; state = t })) ∙ sym (other_comes (Ok t) going)
 
     -- a breakpoint that stops: it makes no context
-    pub break_stops : (k : ℕ) (e : Cause) → Some k ≡ break_of i → Err e ≡ broken_by (memory_of x.mem).around k (state_in x)
+    pub break_stops : (k : ℕ) (e : Cause) → Some k ≡ break_of i → Err e ≡ breakpoint (by_machine (memory_of x.mem).around) k (state_in x)
         → Err (order.Stopped (config_of x) e) ≡ older M (config_of x)
     unfolding state_of
     break_stops k e is stop =
@@ -255,7 +256,7 @@ module _ (listing : Listing) (x : Cpu) where
 
     -- one that stops
     pub other_stops : (e : Cause) (t : Regs) (n : Memory) → InRange x.regs → Counted x.regs → (0 < x.window.a → IsTrue x.regs.fpca) → None ≡ break_of i
-        → Err e ≡ done_in_machine (scalar_in_machine (memory_of x.mem).around i (state_in x)) → t ≡ made i x.regs → n ≡ memory_of x.mem
+        → Err e ≡ done_as cause.Stop (scalar_in_machine (memory_of x.mem).around i (state_in x)) → t ≡ made i x.regs → n ≡ memory_of x.mem
         → Err (order.Stopped (record { a = x.window.a; b = x.window.b; n = x.retired; steps = x.older_steps; state = state_of t n x.output.items }) e)
         ≡ older M (config_of x)
     other_stops e t n range counted context none stop registers memory =

@@ -14,7 +14,8 @@ ghost use Rattle.hm_mem.specs.Seen.{IsSameElsewhere};
 ghost use Rattle.hm_order.specs.Machine.{begin, older, settle};
 ghost use Rattle.hm_regs.specs.Place.{Counted, InRange};
 ghost use Rattle.hm_rows.specs.Context.{with_context};
-ghost use Rattle.hm_run.specs.Program.{core, done_in_machine, most_output, rows, vector_of};
+ghost use Rattle.hm_run.specs.declared.Cause.TheVariants as cause;
+ghost use Rattle.hm_run.specs.Program.{core, done_as, most_output, rows, vector_of};
 ghost use Rattle.hm_run.specs.Stops.{break_of, scalar_break};
 ghost use Rattle.hm_state.specs.State.{state_of};
 ghost use Rattle.hm_thumb.specs.Families.{is_vector_row};
@@ -179,7 +180,7 @@ pub fn execute(i: &Instr, regs: &mut Regs, mem: &mut Mem) -> Result<Flow, Stop>
 fn execute_in_thread(i: &Instr, regs: &mut Regs, mem: &mut Mem) -> Result<(), Cause>
     requires row { IsTrue (not (is_vector_row i.now)) }
     ensures value { (output : List ℕ) → executed result (state_of regs.new (memory_of mem.new) output)
-        ≡ done_in_machine (scalar_in_machine (memory_of mem.old).around i.now (state_of regs.old (memory_of mem.old) output)) }
+        ≡ done_as cause.Stop (scalar_in_machine (memory_of mem.old).around i.now (state_of regs.old (memory_of mem.old) output)) }
     ensures stopped { OnErr result ((regs.new ≡ made i.now regs.old) × (memory_of mem.new ≡ memory_of mem.old)) }
     ensures kept { IsSameElsewhere (memory_of mem.old) (memory_of mem.new) }
     ensures range { InRange regs.old }

@@ -9,7 +9,7 @@ ghost use Rattle.hm_mem.specs.Memory.{memory_of};
 ghost use Rattle.hm_mem.specs.Seen.{read, seen, stop_of};
 ghost use Rattle.hm_base.specs.Results.{unless};
 ghost use Rattle.hm_mem.specs.declared.Access.TheVariants.{Scalar};
-ghost use Rattle.hm_run.specs.Program.{answered, broken_by, in_machine as stops_as, most_output};
+ghost use Rattle.hm_run.specs.Program.{answered, breakpoint, by_machine, cause_of, most_output};
 ghost use Rattle.hm_thumb.specs.Calls.{Writes, asked, most_text, text, writes};
 ghost use Rattle.hm_thumb.specs.Does.{in_machine, words};
 
@@ -143,7 +143,7 @@ fn print(addr: u32, len: u32, mem: &Mem, output: &mut Vec<u8>)
 fn answer(q: Request, x: &mut Cpu) -> Result<(), Cause>
     requires there { IsThere (memory_of x.old.mem) q }
     requires room { vec_capacity x.old.output ≡ most_output }
-    ensures value { executed result (state_in x.new) ≡ stops_as (answered (state_in x.old) (asked_by q (seen (memory_of x.old.mem)))) }
+    ensures value { executed result (state_in x.new) ≡ answered cause_of (state_in x.old) (asked_by q (seen (memory_of x.old.mem))) }
     ensures stays { OnErr result (x.new ≡ x.old) }
     ensures kept { IsServed x.old x.new }
 {
@@ -166,7 +166,7 @@ fn answer(q: Request, x: &mut Cpu) -> Result<(), Cause>
 #[inline(never)]
 pub fn breakpoint(k: u8, x: &mut Cpu) -> Result<(), Cause>
     requires room { vec_capacity x.old.output ≡ most_output }
-    ensures value { executed result (state_in x.new) ≡ broken_by (memory_of x.old.mem).around k (state_in x.old) }
+    ensures value { executed result (state_in x.new) ≡ breakpoint (by_machine (memory_of x.old.mem).around) k (state_in x.old) }
     ensures stays { OnErr result (x.new ≡ x.old) }
     ensures kept { IsServed x.old x.new }
 {

@@ -14,9 +14,8 @@ use Rattle.hm_run.proofs.Steps.{past}
 use Rattle.hm_run.specs.declared.Cause.{Cause}
 use Rattle.hm_run.specs.declared.Cause.TheVariants as cause
 use Rattle.hm_run.specs.declared.Reason.TheVariants.{Break}
-use Rattle.hm_run.specs.Program.{Program, answered, asks, broken_by, caused, core, done_in_machine, in_machine, makes_here, other_here, printed, rows}
-use Rattle.hm_run.specs.Program.{served_by, vector_of}
-use Rattle.hm_run.specs.Stops as why
+use Rattle.hm_run.specs.Program.{Program, answered, asks, breakpoint, by_machine, cause_of, caused, core, done_as, makes_here}
+use Rattle.hm_run.specs.Program.{other_here, printed, rows, served, vector_of}
 use Rattle.hm_run.specs.Stops.{at_break, break_of}
 use Rattle.hm_rows.proofs.Context.{context_bytes}
 use Rattle.hm_rows.specs.Context.{with_context}
@@ -117,11 +116,11 @@ printed_grows : (xs : List ℕ) (s : State) → Grows Nothing s (printed xs s)
 unfolding state_with
 printed_grows xs s a live = inl live
 
-answered_grows : (s t : State) (q : Asked) → in_machine (answered s q) ≡ Ok t → Grows Nothing s t
+answered_grows : (s t : State) (q : Asked) → answered cause_of s q ≡ Ok t → Grows Nothing s t
 answered_grows s t (Exits reason) e = absurd (ok_err (sym e))
 answered_grows s t (Writes xs) e = by_room _ e
   where
-    by_room : (b : Bool) → in_machine (cond b (Err why.Full) (Ok (printed xs s))) ≡ Ok t → Grows Nothing s t
+    by_room : (b : Bool) → cond b (Err cause.Full) (Ok (printed xs s)) ≡ Ok t → Grows Nothing s t
     by_room true h = absurd (ok_err (sym h))
     by_room false h = subst (Grows Nothing s) (ok_same h) (printed_grows xs s)
 
@@ -129,23 +128,24 @@ module _ (bounds : Bounds) where
   abbrev around : Around
   around = thread_under bounds
 
-  served_grows : (s t : State) → served_by around s ≡ Ok t → Grows Nothing s t
+  served_grows : (s t : State) → served (by_machine around) s ≡ Ok t → Grows Nothing s t
   served_grows s t e =
-      let one = then_ok (caused (asked (runner.in_machine around) (regs_of s) (seen_in s))) (λ q. in_machine (answered s q)) t e in
+      let one = then_ok (caused (asked (runner.in_machine around) (regs_of s) (seen_in s))) (answered cause_of s) t e in
       answered_grows s t one.0 one.2
 
-  broken_grows : (k : ℕ) (s t : State) → broken_by around k s ≡ Ok t → Grows Nothing s t
+  broken_grows : (k : ℕ) (s t : State) → breakpoint (by_machine around) k s ≡ Ok t → Grows Nothing s t
   broken_grows k s t e = by_call (asks k) e
     where
-      by_call : (b : Bool) → cond b (served_by around s) (Err (cause.Halt (Break k))) ≡ Ok t → Grows Nothing s t
+      by_call : (b : Bool) → cond b (served (by_machine around) s) (Err (cause.Halt (Break k))) ≡ Ok t → Grows Nothing s t
       by_call true h = served_grows s t h
       by_call false h = absurd (ok_err (sym h))
 
-  went_grows : (i : Instr) (s t : State) (r : Result Went Stop) → scalar_in_machine around i s ≡ r → done_in_machine r ≡ Ok t → Grows Nothing s t
+  went_grows : (i : Instr) (s t : State) (r : Result Went Stop) → scalar_in_machine around i s ≡ r → done_as cause.Stop r ≡ Ok t → Grows Nothing s t
   went_grows i s t (Ok y) e h = subst (Grows Nothing s) (ok_same h) (thread_scalar bounds i s y e)
   went_grows i s t (Err f) e h = absurd (ok_err (sym h))
 
-  by_break : (i : Instr) (s t : State) (o : Option ℕ) → at_break (λ k. broken_by around k s) o (done_in_machine (scalar_in_machine around i s)) ≡ Ok t
+  by_break : (i : Instr) (s t : State) (o : Option ℕ)
+      → at_break (λ k. breakpoint (by_machine around) k s) o (done_as cause.Stop (scalar_in_machine around i s)) ≡ Ok t
       → Grows Nothing s t
   by_break i s t (Some k) e = broken_grows k s t e
   by_break i s t None e = went_grows i s t (scalar_in_machine around i s) refl e

@@ -32,9 +32,9 @@ use Rattle.hm_run.proofs.Steps.{past}
 use Rattle.hm_run.specs.declared.Cause.{Cause}
 use Rattle.hm_run.specs.declared.Cause.TheVariants as cause
 use Rattle.hm_run.specs.declared.Reason.TheVariants.{Break}
-use Rattle.hm_run.specs.Program.{Program, answered, asks, broken_by, caused, core, done_in_machine, in_machine, is_ready, most_output, other_here, printed}
-use Rattle.hm_run.specs.Program.{refusal_rule, rows, served_by, unless_refused, vector_of}
-use Rattle.hm_run.specs.Stops as why
+use Rattle.hm_run.specs.Program.{Program, answered, asks, breakpoint, by_machine, cause_of, caused, core, done_as, in_machine}
+use Rattle.hm_run.specs.Program.{is_ready, most_output, other_here, printed, refusal_rule, rows, served, unless_refused}
+use Rattle.hm_run.specs.Program.{vector_of}
 use Rattle.hm_run.specs.Stops.{at_break, break_of}
 use Rattle.hm_state.specs.State.{State, Rest, at, cells, regs_of}
 use Rattle.hm_thumb.specs.Calls.{Asked, Writes, Exits, asked}
@@ -250,26 +250,27 @@ then_if : {A B E : Type 0} (P : B → Type 0) (r : Result A E) (f : A → Result
 then_if P (Ok a) f h = h a
 then_if P (Err e) f h = tt
 
-answered_leaves : (s : State) (q : Asked) → IfOk (in_machine (answered s q)) (Kept s)
+answered_leaves : (s : State) (q : Asked) → IfOk (answered cause_of s q) (Kept s)
 answered_leaves s (Exits reason) = tt
 answered_leaves s (Writes xs) = by_room (nat_lt most_output (length s.rest.output + length xs))
   where
-    by_room : (b : Bool) → IfOk (in_machine (cond b (Err why.Full) (Ok (printed xs s)))) (Kept s)
+    by_room : (b : Bool) → IfOk (cond b (Err cause.Full) (Ok (printed xs s))) (Kept s)
     by_room true = tt
     by_room false = printed_leaves xs s
 
-broken_leaves : (x : Around) (k : ℕ) (s : State) → IfOk (broken_by x k s) (Kept s)
+broken_leaves : (x : Around) (k : ℕ) (s : State) → IfOk (breakpoint (by_machine x) k s) (Kept s)
 broken_leaves x k s = by_call (asks k)
   where
-    by_call : (b : Bool) → IfOk (cond b (served_by x s) (Err (cause.Halt (Break k)))) (Kept s)
-    by_call true = then_if (Kept s) (caused (asked (runner.in_machine x) (regs_of s) (seen_in s))) (λ q. in_machine (answered s q)) (answered_leaves s)
+    by_call : (b : Bool) → IfOk (cond b (served (by_machine x) s) (Err (cause.Halt (Break k)))) (Kept s)
+    by_call true = then_if (Kept s) (caused (asked (runner.in_machine x) (regs_of s) (seen_in s))) (answered cause_of s) (answered_leaves s)
     by_call false = tt
 
-done_leaves : (s : State) (r : Result Went Stop) → IfOk r (λ y. Leaves s.rest y.state.rest) → IfOk (done_in_machine r) (Kept s)
+done_leaves : (s : State) (r : Result Went Stop) → IfOk r (λ y. Leaves s.rest y.state.rest) → IfOk (done_as cause.Stop r) (Kept s)
 done_leaves s (Ok y) h = h
 done_leaves s (Err f) h = tt
 
-by_break : (x : Around) (i : Instr) (s : State) (o : Option ℕ) → IfOk (at_break (λ k. broken_by x k s) o (done_in_machine (scalar_in_machine x i s))) (Kept s)
+by_break : (x : Around) (i : Instr) (s : State) (o : Option ℕ)
+    → IfOk (at_break (λ k. breakpoint (by_machine x) k s) o (done_as cause.Stop (scalar_in_machine x i s))) (Kept s)
 by_break x i s (Some k) = broken_leaves x k s
 by_break x i s None = done_leaves s (scalar_in_machine x i s) (scalar_leaves x i s)
 

@@ -1,6 +1,5 @@
 -- Breakpoints: in the machine and alone.
 use Rattle.std.proofs.Common.{◌≡◌, ℕ, ◌+◌, ◌++◌, ap, refl, subst, Bool, true, false, cond, length, nat_lt, List, Option, Some, None, Result, Ok, Err, inl, inr}
-use Rattle.std.proofs.Common.{arith}
 use Rattle.std.proofs.Common.{◌⊎◌, ◌∙◌}
 use Rattle.hm_base.specs.declared.Fault.{Fault}
 use Rattle.hm_base.specs.declared.Stop.{Stop}
@@ -12,7 +11,8 @@ use Rattle.hm_run.specs.declared.Cause.{Cause}
 use Rattle.hm_run.specs.declared.Cause.TheVariants as cause
 use Rattle.hm_run.specs.declared.Reason.{Reason}
 use Rattle.hm_run.specs.declared.Reason.TheVariants.{Break}
-use Rattle.hm_run.specs.Program.{answered, asks, broken, broken_by, caused, cause_of, in_machine, is_tainted_cause, most_output, or_fault, printed}
+use Rattle.hm_run.specs.Program.{answered, asks, breakpoint, by_itself, by_machine, cause_of, caused, in_machine}
+use Rattle.hm_run.specs.Program.{is_tainted_cause, itself, most_output, or_fault, printed}
 use Rattle.hm_run.specs.Stops as why
 use Rattle.hm_run.specs.Stops.{WholeStop, at_break}
 use Rattle.hm_state.specs.State.{State, regs_of}
@@ -41,7 +41,7 @@ break_alike f g None r q h l = l
 
 -- what a breakpoint asks: from states that agree where the first is live
 printed_alike : (b c : Bool) (u v : State) → b ≡ c → Live view u v × (u.pc ≡ v.pc)
-    → AlikeBoth (in_machine (cond b (Err why.Full) (Ok u))) (cond c (Err why.Full) (Ok v))
+    → AlikeBoth (cond b (Err cause.Full) (Ok u)) (cond c (Err why.Full) (Ok v))
 printed_alike true true u v e h = refl
 printed_alike true false u v e h = absurd cc
 printed_alike false true u v e h = absurd cc
@@ -64,7 +64,7 @@ broken_alike true reason r q h = h
 broken_alike false reason r q h = inr refl
 
 module _ (s t : State) (live : Live view s t) (at : s.pc ≡ t.pc) where
-  answered_alike : (x : Asked) → AlikeBoth (in_machine (answered s x)) (answered t x)
+  answered_alike : (x : Asked) → AlikeBoth (answered cause_of s x) (answered itself t x)
   answered_alike (Writes xs) =
       let same : s.rest.output ≡ t.rest.output = same_output s t live in
       let r = settled 2 way.On (regs_of s) in
@@ -77,10 +77,10 @@ module _ (s t : State) (live : Live view s t) (at : s.pc ≡ t.pc) where
       )
   answered_alike (Exits reason) = refl
 
-  pub asked_alike : (bounds : Bounds) (k : ℕ) → TaintedOrAlike (broken_by (thread_under bounds) k s) (broken k t)
+  pub asked_alike : (bounds : Bounds) (k : ℕ) → TaintedOrAlike (breakpoint (by_machine (thread_under bounds)) k s) (breakpoint by_itself k t)
   asked_alike bounds k =
       broken_alike (asks k) (Break k) _ _
-      (served_alike (λ x. in_machine (answered s x)) (answered t) _ _ answered_alike
+      (served_alike (answered cause_of s) (answered itself t) _ _ answered_alike
       (subst (λ (r : Regs). ReadsAlike (asked (runner.in_machine (thread_under bounds)) (regs_of s) (seen_in s)) (asked runner.alone r (seen_in t)))
       (same_regs s t live at)
       (asked-live bounds (seen_in s) (seen_in t) (seen_live s t live) (regs_of s))))
@@ -100,11 +100,11 @@ module _ (s : State) (clean : NoTaint s) where
   printed_leaves true xs = tt
   printed_leaves false xs = clean
 
-  answered_leaves : (x : Asked) → Leaves (answered s x)
+  answered_leaves : (x : Asked) → Leaves (answered itself s x)
   answered_leaves (Writes xs) = printed_leaves _ xs
   answered_leaves (Exits reason) = tt
 
-  served_leaves : (q : Result Asked Fault) → Leaves (then (or_fault q) (answered s))
+  served_leaves : (q : Result Asked Fault) → Leaves (then (or_fault q) (answered itself s))
   served_leaves (Ok x) = answered_leaves x
   served_leaves (Err f) = tt
 
@@ -112,7 +112,7 @@ module _ (s : State) (clean : NoTaint s) where
   either_leaves true reason r h = h
   either_leaves false reason r h = tt
 
-  pub broken_leaves : (k : ℕ) → Leaves (broken k s)
+  pub broken_leaves : (k : ℕ) → Leaves (breakpoint by_itself k s)
   broken_leaves k = either_leaves (asks k) (Break k) _ (served_leaves _)
 
 -- WITHOUT TAINT it comes in the machine to what it comes to alone
@@ -121,16 +121,25 @@ pub break_same : (f : ℕ → Result State Cause) (g : ℕ → Result State Whol
 break_same f g (Some k) r q h l = h k
 break_same f g None r q h l = l
 
-served_same : (s : State) (q : Result Asked Fault) → then (caused (as_stops q)) (λ x. in_machine (answered s x)) ≡ in_machine (then (or_fault q) (answered s))
-served_same s q = grind arith
+room_same : (b : Bool) (u : State) → cond b (Err cause.Full) (Ok u) ≡ in_machine (cond b (Err why.Full) (Ok u))
+room_same true u = refl
+room_same false u = refl
+
+answered_same : (s : State) (x : Asked) → answered cause_of s x ≡ in_machine (answered itself s x)
+answered_same s (Writes xs) = room_same _ (printed xs s)
+answered_same s (Exits reason) = refl
+
+served_same : (s : State) (q : Result Asked Fault) → then (caused (as_stops q)) (answered cause_of s) ≡ in_machine (then (or_fault q) (answered itself s))
+served_same s (Ok x) = answered_same s x
+served_same s (Err f) = refl
 
 either_same : (b : Bool) (reason : Reason) (r : Result State Cause) (q : Result State WholeStop) → r ≡ in_machine q
     → cond b r (Err (cause.Halt reason)) ≡ in_machine (cond b q (Err (why.Halt reason)))
 either_same true reason r q h = h
 either_same false reason r q h = refl
 
-pub broken_same : (bounds : Bounds) (k : ℕ) (s : State) → NoTaint s → broken_by (thread_under bounds) k s ≡ in_machine (broken k s)
+pub broken_same : (bounds : Bounds) (k : ℕ) (s : State) → NoTaint s → breakpoint (by_machine (thread_under bounds)) k s ≡ in_machine (breakpoint by_itself k s)
 broken_same bounds k s clean =
     either_same (asks k) (Break k) _ _
-    (ap (λ q. then (caused q) (λ x. in_machine (answered s x))) (asked-same bounds (seen_in s) clean (regs_of s))
+    (ap (λ q. then (caused q) (answered cause_of s)) (asked-same bounds (seen_in s) clean (regs_of s))
     ∙ served_same s (asked runner.alone (regs_of s) (seen_in s)))

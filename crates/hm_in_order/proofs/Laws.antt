@@ -38,11 +38,11 @@ use Rattle.hm_beat.specs.declared.clash.Clash.{Clash}
 use Rattle.hm_beat.specs.Meeting.{clash_with}
 use Rattle.hm_beat.proofs.Remaining.{left_apart}
 use Rattle.hm_window.specs.Overlap.{first_rule, is_too_early, rule_of_clash}
-use Rattle.hm_run.specs.Program.{rows, core, alone, begins, caused, cause_of, done_alone, done_in_machine, in_machine, is_ready, is_tainted_cause, lifted}
-use Rattle.hm_run.specs.Program.{makes_here, on_cell, or_fault, other_by, other_here, other_row, ready_state, refusal_rule, step_rule, unless_refused}
-use Rattle.hm_run.specs.Program.{vector_of, whole_here}
+use Rattle.hm_run.specs.Program.{alone, begins, by_itself, by_machine, cause_of, caused, core, done_as, in_machine, is_ready}
+use Rattle.hm_run.specs.Program.{is_tainted_cause, lifted, makes_here, on_cell, or_fault, other_here, other_row, ready_state}
+use Rattle.hm_run.specs.Program.{refusal_rule, rows, step_rule, unless_refused, vector_of, whole_here}
 use Rattle.hm_whole.specs.Watched.{GoesAlike, Watched, In, Beside, Held, InCell, Besides, open_rest, held, dead, view}
-use Rattle.hm_run.specs.Stops.{WholeStop, break_of}
+use Rattle.hm_run.specs.Stops.{Faults, WholeStop, break_of}
 use Rattle.hm_rows.proofs.Rows.{keeps_lr, row_laws}
 use Rattle.hm_rows.proofs.Context.{context_fresh, context_pc, context_ready, context_there, fresh}
 use Rattle.hm_whole.specs.Whole.{Went, scalar_alone, scalar_in_machine}
@@ -110,7 +110,7 @@ context_agree s t h = by_context s.rest.fpca refl (sym (ap (λ (r : Rest). r.fpc
         subst (λ (u : State). Agree u (with_context t)) (sym new_s) (subst (λ (u : State). Agree (fresh s) u) (sym new_t) (fresh_agree s t h))
 
 -- WHAT AN INSTRUCTION THAT IS NO VECTOR ROW DOES IN THEM
-done_alike : (r : Result Went Stop) (q : Result Went Fault) → GoesAlike r q → TaintedOrAlike (done_in_machine r) (done_alone q)
+done_alike : (r : Result Went Stop) (q : Result Went Fault) → GoesAlike r q → TaintedOrAlike (done_as cause.Stop r) (done_as Faults q)
 done_alike (Ok x) (Ok y) (inl h) = absurd h
 done_alike (Ok x) (Ok y) (inr h) = inr (h.live, h.pc)
 done_alike (Ok x) (Err f) (inl h) = absurd h
@@ -121,9 +121,9 @@ done_alike (Err e) (Err f) (inl h) = inl h
 done_alike (Err e) (Err f) (inr h) = inr (ap cause.Stop h)
 
 module _ (x : Around) (thread : x.actor ≡ Thread) where
-  by_thread : (i : Instr) (s t : State) → Live view s t → s.pc ≡ t.pc → TaintedOrAlike (other_by x i s) (other_row i t)
+  by_thread : (i : Instr) (s t : State) → Live view s t → s.pc ≡ t.pc → TaintedOrAlike (other_row (by_machine x) i s) (other_row by_itself i t)
   by_thread i s t h e =
-      subst (λ (y : Around). TaintedOrAlike (other_by y i s) (other_row i t)) (sym (under_thread x thread))
+      subst (λ (y : Around). TaintedOrAlike (other_row (by_machine y) i s) (other_row by_itself i t)) (sym (under_thread x thread))
       (break_alike _ _ (break_of i) _ _ (asked_alike s t h e x.bounds)
       (done_alike (scalar_in_machine (thread_under x.bounds) i s) (scalar_alone i t) (whole-live x.bounds i s t h e)))
 

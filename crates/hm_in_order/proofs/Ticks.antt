@@ -28,8 +28,8 @@ use Rattle.hm_window.specs.declared.rule.Rule.{Rule}
 use Rattle.hm_window.specs.declared.rule.Rule.TheVariants as rule
 use Rattle.hm_run.specs.declared.Who.{Who}
 use Rattle.hm_run.specs.declared.Who.TheVariants.{Thread, Handler, Entry}
-use Rattle.hm_run.specs.Program.{Program, Stepped, Stopping, alone, broken, core, cause_of, done_alone, is_tainted_cause, makes_here}
-use Rattle.hm_run.specs.Program.{or_fault, unless_refused, vector_of, whole_here}
+use Rattle.hm_run.specs.Program.{Program, Stepped, Stopping, alone, breakpoint, by_itself, cause_of, core, done_as}
+use Rattle.hm_run.specs.Program.{is_tainted_cause, makes_here, or_fault, unless_refused, vector_of, whole_here}
 use Rattle.hm_whole.specs.Watched.{Watched, In, Beside, view, held, dead}
 use Rattle.hm_mem.specs.Devices.{open_devices}
 use Rattle.hm_run.specs.Stops as why
@@ -117,19 +117,19 @@ module _ (listing : Listing) (around : Around) (thread : around.actor ≡ actor.
       (row_faults v (refuse v (with_context s)) (with_context s) w (sym (ap (λ (o : Option Vector). next_of machine o s) here) ∙ e)) other
 
   -- an instruction that stops for something else is a breakpoint, and makes no context
-  done_faults : (q : Result Went Fault) (w : WholeStop) → done_alone q ≡ Err w → is_fault w ≡ true
+  done_faults : (q : Result Went Fault) (w : WholeStop) → done_as why.Faults q ≡ Err w → is_fault w ≡ true
   done_faults (Ok x) w e = absurd (ok_err e)
   done_faults (Err f) w e = ap is_fault (sym (err_same e))
 
   breaks_first : (f : ℕ → Result State WholeStop) (o : Option ℕ) (q : Result Went Fault) (w : WholeStop) → is_fault w ≡ false
-      → at_break f o (done_alone q) ≡ Err w → o ≡ None → ⊥
+      → at_break f o (done_as why.Faults q) ≡ Err w → o ≡ None → ⊥
   breaks_first f (Some k) q w other e none = cc
   breaks_first f None q w other e none = true_not_false (is_fault w) (done_faults q w e) other
 
   makes_none : (x : Result Instr Fault) (s : State) (w : WholeStop) → is_fault w ≡ false → vector_of x ≡ None → whole_here x s ≡ Err w
       → makes_here x (regs_of s) ≡ false
   makes_none (Ok (instr.Scalar i)) s w other none e =
-      break_makes (instr.Scalar i) (regs_of s) (breaks_first (λ k. broken k s) (scalar_break i) (scalar_alone (instr.Scalar i) s) w other e)
+      break_makes (instr.Scalar i) (regs_of s) (breaks_first (λ k. breakpoint by_itself k s) (scalar_break i) (scalar_alone (instr.Scalar i) s) w other e)
   makes_none (Ok (instr.Branch i)) s w other none e = absurd (true_not_false (is_fault w) (done_faults (scalar_alone (instr.Branch i) s) w e) other)
   makes_none (Ok (instr.Vector v)) s w other none e = absurd cc
   makes_none (Err f) s w other none e = refl

@@ -19,9 +19,10 @@ use Rattle.hm_rows.specs.Rows.{refuse, vector_tree, vector_whole}
 use Rattle.hm_rows.proofs.Context.{context_pc, context_ready}
 use Rattle.hm_run.specs.declared.Cause.{Cause}
 use Rattle.hm_run.specs.declared.Cause.TheVariants as cause
-use Rattle.hm_run.specs.Program.{Program, Stepped, core, rows, alone, caused, cause_of, done_alone, done_in_machine, in_machine}
-use Rattle.hm_run.specs.Program.{or_fault, other_by, other_here, other_row, ready_state, steps_left, vector_of, vector_row, whole_here}
-use Rattle.hm_run.specs.Stops.{WholeStop, break_of}
+use Rattle.hm_run.specs.Program.{Program, Stepped, alone, by_itself, by_machine, cause_of, caused, core, done_as, in_machine}
+use Rattle.hm_run.specs.Program.{or_fault, other_here, other_row, ready_state, rows, steps_left, vector_of, vector_row}
+use Rattle.hm_run.specs.Program.{whole_here}
+use Rattle.hm_run.specs.Stops.{Faults, WholeStop, break_of}
 use Rattle.hm_run.proofs.Steps.{older_other, older_vector, past}
 use Rattle.hm_whole.specs.Watched as watched
 use Rattle.hm_mem.specs.Seen.{as_stops}
@@ -50,12 +51,12 @@ watched_clean s h (In (At p)) = refl
 watched_clean s h (In (Byte a)) = h a
 watched_clean s h Beside = refl
 
-done_leaves : (q : Result Went Fault) → GoesClean q → Leaves (done_alone q)
+done_leaves : (q : Result Went Fault) → GoesClean q → Leaves (done_as Faults q)
 done_leaves (Ok x) h = λ a. h (In (Byte a))
 done_leaves (Err f) h = tt
 
-other_leaves : (i : Instr) (s : State) → NoTaint s → Leaves (other_row i s)
-other_leaves i s h = break_leaves _ (break_of i) (done_alone (scalar_alone i s)) (broken_leaves s h)
+other_leaves : (i : Instr) (s : State) → NoTaint s → Leaves (other_row by_itself i s)
+other_leaves i s h = break_leaves _ (break_of i) (done_as Faults (scalar_alone i s)) (broken_leaves s h)
     (done_leaves (scalar_alone i s) (whole-clean i s (watched_clean s h)))
 
 module _ (around : Around) (thread : around.actor ≡ Thread) where
@@ -70,18 +71,18 @@ module _ (around : Around) (thread : around.actor ≡ Thread) where
   leaves (Err f) s h = tt
 
 -- WITHOUT TAINT an instruction that is no vector row comes in the machine to what it comes to alone
-done_same : (q : Result Went Fault) → done_in_machine (as_stops q) ≡ in_machine (done_alone q)
+done_same : (q : Result Went Fault) → done_as cause.Stop (as_stops q) ≡ in_machine (done_as Faults q)
 done_same q = grind arith
 
 pub under_thread : (x : Around) → x.actor ≡ Thread → x ≡ thread_under x.bounds
 under_thread x e = λ j. record { actor = e j; bounds = x.bounds }
 
 module _ (x : Around) (thread : x.actor ≡ Thread) where
-  same_is : (i : Instr) (s : State) → NoTaint s → other_by x i s ≡ in_machine (other_row i s)
+  same_is : (i : Instr) (s : State) → NoTaint s → other_row (by_machine x) i s ≡ in_machine (other_row by_itself i s)
   same_is i s clean =
-      ap (λ (y : Around). other_by y i s) (under_thread x thread)
+      ap (λ (y : Around). other_row (by_machine y) i s) (under_thread x thread)
       ∙ break_same _ _ (break_of i) _ _ (λ k. broken_same x.bounds k s clean)
-      (ap done_in_machine (whole-same x.bounds i s (watched_clean s clean)) ∙ done_same (scalar_alone i s))
+      (ap (done_as cause.Stop) (whole-same x.bounds i s (watched_clean s clean)) ∙ done_same (scalar_alone i s))
 
   other_is : (r : Result Instr Fault) (s : State) → vector_of r ≡ None → NoTaint s → other_here x r s ≡ in_machine (whole_here r s)
   other_is (Ok (instr.Scalar i)) s none clean = same_is (instr.Scalar i) s clean

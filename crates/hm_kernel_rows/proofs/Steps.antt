@@ -32,7 +32,7 @@ use Rattle.hm_thumb.specs.Steps.{Stepped, finish, flow_of, go_on, settled, step}
 use Rattle.hm_thumb.specs.declared.Way.{Way}
 use Rattle.hm_thumb.specs.declared.Way.TheVariants as way
 use Rattle.hm_run.specs.Program as program
-use Rattle.hm_run.specs.Stops.{WholeStop}
+use Rattle.hm_run.specs.Stops.{Faults, WholeStop}
 use Rattle.hm_whole.specs.Whole.{goes_from, scalar_alone, seen_in, state_with}
 use Rattle.hm_kernel_lang.specs.declared.text.ElementType.{ElementType}
 use Rattle.hm_kernel_lang.specs.Machine.{View, Clear, Low, High, LowLength, HighLength, Offset, Further, Plain, exec, with_high}
@@ -236,7 +236,7 @@ module _ (t : ElementType) (listing : Listing) where
 
   -- an instruction that ends with registers, in one of the ways that go on
   pub ended : (i : Instr) (v w : View) (s : State) (go : Way) (r' q : Regs) → Shows t v s → listing v.pc ≡ Ok i
-      → program.whole i s ≡ program.done_alone (scalar_alone i s)
+      → program.whole i s ≡ program.done_as Faults (scalar_alone i s)
       → runs i (regs_of s) ≡ true → instr_does i (cond (needs_context i) (with_context (regs_of s)) (regs_of s)) ≡ Ends go r' → settled (width i) go r' ≡ q
       → InRegs t w q (seen_in s)
       → Reaches (program.alone listing) (Shows t) 1 s w
@@ -246,11 +246,11 @@ module _ (t : ElementType) (listing : Listing) where
       let step_comes : step alone i r m ≡ Ok (record { flow = flow_of go; regs = q; seen = m }) = step_is i r m runs
       ∙ ap (λ (d : Does). finish (width i) (run alone d m)) does ∙ ap (λ (x : Regs). Ok (record { flow = flow_of go; regs = x; seen = m })) leaves in
       let u = state_with q m s.rest.around s.rest.output in
-      reached i w s u (ap listing shows.pc ∙ here) (other ∙ ap (λ (x : Result Stepped Fault). program.done_alone (goes_from s x)) step_comes)
+      reached i w s u (ap listing shows.pc ∙ here) (other ∙ ap (λ (x : Result Stepped Fault). program.done_as Faults (goes_from s x)) step_comes)
       (to_state t w q m s.rest.around s.rest.output in_regs)
 
   -- an instruction that goes on to the next
-  pub went_on : (i : Instr) (v w : View) (s : State) (r' : Regs) → Shows t v s → listing v.pc ≡ Ok i → program.whole i s ≡ program.done_alone (scalar_alone i s)
+  pub went_on : (i : Instr) (v w : View) (s : State) (r' : Regs) → Shows t v s → listing v.pc ≡ Ok i → program.whole i s ≡ program.done_as Faults (scalar_alone i s)
       → runs i (regs_of s) ≡ true → instr_does i (cond (needs_context i) (with_context (regs_of s)) (regs_of s)) ≡ goes r' → InRegs t w r' (seen_in s)
       → w.pc + width i < 2 ^ 32
       → Reaches (program.alone listing) (Shows t) 1 s (record w { pc = w.pc + width i })

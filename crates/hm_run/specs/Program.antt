@@ -29,11 +29,12 @@ use Rattle.hm_base.specs.Stops.{is_tainted}
 use Rattle.hm_window.specs.Overlap.{first_rule}
 use Rattle.hm_thumb.specs.Calls.{Asked, Writes, Exits, asked}
 use Rattle.hm_thumb.specs.Does as runner
+use Rattle.hm_thumb.specs.Does.{Runner}
 use Rattle.hm_thumb.specs.Rows.{makes_context}
 use Rattle.hm_thumb.specs.Steps.{settled}
 use Rattle.hm_thumb.specs.declared.Way.TheVariants as way
 use Rattle.hm_whole.specs.Watched.{Watched, In, Beside, Held, dead, view}
-use Rattle.hm_whole.specs.Whole.{Went, scalar_alone, scalar_in_machine, seen_in, state_with}
+use Rattle.hm_whole.specs.Whole.{Went, scalar_by, seen_in, state_with}
 
 -- ONE WHOLE INSTRUCTION, in thread mode, alone. A vector row first makes the context where there is none, and may then
 -- be refused.
@@ -45,10 +46,14 @@ unless_refused None s = Ok s
 abbrev pub ready_state : Vector → State → Result State WholeStop
 ready_state v s = unless_refused (refuse v (with_context s)) (with_context s)
 
+-- a result, with what stops it named so
+abbrev pub named_so : {A F E : Type 0} → (F → E) → Result A F → Result A E
+named_so f (Ok x) = Ok x
+named_so f (Err e) = Err (f e)
+
 -- what may have a fault, as the end of a whole instruction
 abbrev pub or_fault : {A : Type 0} → Result A Fault → Result A WholeStop
-or_fault (Ok x) = Ok x
-or_fault (Err f) = Err (Faults f)
+or_fault = named_so Faults
 
 -- one whole vector row, alone: with a context, all its beats, where it is not refused
 abbrev pub vector_row : Vector → State → Result State WholeStop
@@ -66,32 +71,56 @@ most_output = 0x10000
 abbrev pub printed : List ℕ → State → State
 printed xs s = state_with (settled 2 way.On (regs_of s)) (seen_in s) s.rest.around (s.rest.output ++ xs)
 
+-- HOW AN INSTRUCTION IS DONE that is no vector row: who runs it, and how what stops it there and what ends the program are named
+pub record Doing (F E : Type 0) : Type 0 where
+  pub runner : Runner F
+  pub stopped : F → E
+  pub ended : WholeStop → E
+
+-- why a whole instruction does not go on, named alone
+abbrev pub itself : WholeStop → WholeStop
+itself w = w
+
+-- and by the machine
+abbrev pub cause_of : WholeStop → Cause
+cause_of (Halt reason) = cause.Halt reason
+cause_of Full = cause.Full
+cause_of (Faults f) = cause.Stop (stop.Fault f)
+
+-- alone, in thread mode
+abbrev pub by_itself : Doing Fault WholeStop
+by_itself = record { runner = runner.alone; stopped = Faults; ended = itself }
+
+-- in the machine, under who accesses the memory
+abbrev pub by_machine : Around → Doing Stop Cause
+by_machine around = record { runner = runner.in_machine around; stopped = cause.Stop; ended = cause_of }
+
 -- what the host does: it writes the bytes behind the output, if there is room, or ends the program
-abbrev pub answered : State → Asked → Result State WholeStop
-answered s (Writes xs) = cond (nat_lt most_output (length s.rest.output + length xs)) (Err Full) (Ok (printed xs s))
-answered s (Exits reason) = Err (Halt (Exit reason))
+abbrev pub answered : {E : Type 0} → (WholeStop → E) → State → Asked → Result State E
+answered ended s (Writes xs) = cond (nat_lt most_output (length s.rest.output + length xs)) (Err (ended Full)) (Ok (printed xs s))
+answered ended s (Exits reason) = Err (ended (Halt (Exit reason)))
 
--- BKPT 171, alone: what the program asks of the host is read and done
-abbrev pub served : State → Result State WholeStop
-served s = then (or_fault (asked runner.alone (regs_of s) (seen_in s))) (answered s)
+-- BKPT 171: what the program asks of the host is read and done
+abbrev pub served : {F E : Type 0} → Doing F E → State → Result State E
+served d s = then (named_so d.stopped (asked d.runner (regs_of s) (seen_in s))) (answered d.ended s)
 
--- BKPT with number k, alone
-abbrev pub broken : ℕ → State → Result State WholeStop
-broken k s = cond (asks k) (served s) (Err (Halt (Break k)))
+-- BKPT with number k
+abbrev pub breakpoint : {F E : Type 0} → Doing F E → ℕ → State → Result State E
+breakpoint d k s = cond (asks k) (served d s) (Err (d.ended (Halt (Break k))))
 
--- Any other instruction is done. (One that would end a handler is as any other: it stands in no thread.)
-abbrev pub done_alone : Result Went Fault → Result State WholeStop
-done_alone (Ok x) = Ok x.state
-done_alone (Err f) = Err (Faults f)
+-- Any other instruction is done: the state that it leaves, or why it stops. (Alone, one that would end a handler is as any other: it stands in no thread.)
+abbrev pub done_as : {F E : Type 0} → (F → E) → Result Went F → Result State E
+done_as f (Ok x) = Ok x.state
+done_as f (Err e) = Err (f e)
 
--- one whole instruction that is no vector row, alone
-abbrev pub other_row : Instr → State → Result State WholeStop
-other_row i s = at_break (λ k. broken k s) (break_of i) (done_alone (scalar_alone i s))
+-- one whole instruction that is no vector row
+abbrev pub other_row : {F E : Type 0} → Doing F E → Instr → State → Result State E
+other_row d i s = at_break (λ k. breakpoint d k s) (break_of i) (done_as d.stopped (scalar_by d.runner i s))
 
 -- one whole instruction, alone
 abbrev pub whole : Instr → State → Result State WholeStop
-whole (instr.Scalar i) s = other_row (instr.Scalar i) s
-whole (instr.Branch i) s = other_row (instr.Branch i) s
+whole (instr.Scalar i) s = other_row by_itself (instr.Scalar i) s
+whole (instr.Branch i) s = other_row by_itself (instr.Branch i) s
 whole (instr.Vector v) s = vector_row v s
 
 -- what stands at the program counter, done; or the fault where nothing stands there
@@ -103,43 +132,18 @@ whole_here (Err f) s = Err (Faults f)
 abbrev pub alone : Listing → State → Result State WholeStop
 alone listing s = whole_here (listing s.pc) s
 
--- the same in the machine
-abbrev pub cause_of : WholeStop → Cause
-cause_of (Halt reason) = cause.Halt reason
-cause_of Full = cause.Full
-cause_of (Faults f) = cause.Stop (stop.Fault f)
-
 -- what a whole instruction comes to alone, with the cause that the machine names where it does not go on
 abbrev pub in_machine : Result State WholeStop → Result State Cause
-in_machine (Ok s) = Ok s
-in_machine (Err w) = Err (cause_of w)
+in_machine = named_so cause_of
 
--- a breakpoint, and any other instruction that is no vector row, in the machine
+-- what stops a part of an instruction, with the cause that the machine names
 abbrev pub caused : {A : Type 0} → Result A Stop → Result A Cause
-caused (Ok x) = Ok x
-caused (Err e) = Err (cause.Stop e)
-
--- BKPT 171 in the machine: what the program asks is read under who accesses the memory, and done
-abbrev pub served_by : Around → State → Result State Cause
-served_by around s = then (caused (asked (runner.in_machine around) (regs_of s) (seen_in s))) (λ x. in_machine (answered s x))
-
--- BKPT with number k, in the machine
-abbrev pub broken_by : Around → ℕ → State → Result State Cause
-broken_by around k s = cond (asks k) (served_by around s) (Err (cause.Halt (Break k)))
-
--- the state that an instruction leaves in the machine, or why it stops there
-abbrev pub done_in_machine : Result Went Stop → Result State Cause
-done_in_machine (Ok x) = Ok x.state
-done_in_machine (Err e) = Err (cause.Stop e)
-
--- one whole instruction that is no vector row, in the machine
-abbrev pub other_by : Around → Instr → State → Result State Cause
-other_by around i s = at_break (λ k. broken_by around k s) (break_of i) (done_in_machine (scalar_in_machine around i s))
+caused = named_so cause.Stop
 
 -- what stands at the program counter, done whole in the machine, or the fault where nothing stands there
 abbrev pub other_here : Around → Result Instr Fault → State → Result State Cause
-other_here around (Ok (instr.Scalar i)) s = other_by around (instr.Scalar i) s
-other_here around (Ok (instr.Branch i)) s = other_by around (instr.Branch i) s
+other_here around (Ok (instr.Scalar i)) s = other_row (by_machine around) (instr.Scalar i) s
+other_here around (Ok (instr.Branch i)) s = other_row (by_machine around) (instr.Branch i) s
 other_here around (Ok (instr.Vector v)) s = in_machine (vector_row v s)
 other_here around (Err f) s = Err (cause.Stop (stop.Fault f))
 

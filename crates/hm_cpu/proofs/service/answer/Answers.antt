@@ -5,8 +5,7 @@ use Rattle.hm_cpu.specs.declared.service.Request.{Request}
 use Rattle.hm_mem.specs.Memory.{memory_of}
 use Rattle.hm_mem.specs.Seen.{seen}
 use Rattle.hm_regs.specs.declared.Regs.{Regs}
-use Rattle.hm_run.specs.Program.{answered, most_output}
-use Rattle.hm_run.specs.Program.{in_machine as stops_as}
+use Rattle.hm_run.specs.Program.{answered, cause_of, most_output}
 use Rattle.hm_state.specs.State.{state_of}
 use Rattle.hm_thumb.specs.Does.{words}
 use Rattle.hm_thumb.specs.Steps.{settled}
@@ -24,7 +23,7 @@ returns-then-len-clause-value c =
     let len = c.len.ensures in
     let full : most_output < length x.output.items + length xs = omega (arith, size, ok, over, len) in
     is_full x.regs m x.output.items xs full
-    ∙ ap (λ (q : Request). stops_as (answered (state_of x.regs m x.output.items) (asked_by q (seen m)))) (sym c.in-Write.is)
+    ∙ ap (λ (q : Request). answered cause_of (state_of x.regs m x.output.items) (asked_by q (seen m))) (sym c.in-Write.is)
 
 pub returns-else-len-clause-value : goal.returns-else-len-clause-value
 returns-else-len-clause-value c =
@@ -40,4 +39,4 @@ returns-else-len-clause-value c =
     ap (λ (r : Regs). Ok (state_of r m c.print.new.output.items)) c.settle.ensures.regs
     ∙ ap (λ (o : List ℕ). Ok (state_of (settled 2 way.On x.regs) m o)) c.print.ensures.items
     ∙ prints x.regs m x.output.items xs c.in_range.ensures.counted c.in_range.ensures.range.fpscr_fits c.in_range.ensures.range.vpr_fits few
-    ∙ ap (λ (q : Request). stops_as (answered (state_of x.regs m x.output.items) (asked_by q (seen m)))) (sym c.in-Write.is)
+    ∙ ap (λ (q : Request). answered cause_of (state_of x.regs m x.output.items) (asked_by q (seen m))) (sym c.in-Write.is)
