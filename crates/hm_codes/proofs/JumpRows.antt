@@ -103,8 +103,8 @@ row_loop_end = record {
 }
 
 -- a row of one code
-abbrev pub row_of : ℕ → Row (Unit {0})
-row_of c = record {
+abbrev pub row_of_code : ℕ → Row (Unit {0})
+row_of_code c = record {
   Name = Unit {0};
   names = tt ∷ [];
   name = λ r. tt;
@@ -140,6 +140,6 @@ coded_t23 =
     coded spared_dlstp ▹
     coded spared_wlstp ▹
     coded (named row_loop_end) ▹
-    coded (row_of 0xf00fe001) ▹
+    coded (row_of_code 0xf00fe001) ▹
     tt)
     (elim [ t23.Dls r ↦ refl | t23.Wls r ↦ refl | t23.Dlstp r ↦ refl | t23.Wlstp r ↦ refl | t23.End r ↦ refl | t23.Lctp ↦ refl ])

@@ -23,7 +23,7 @@ use Rattle.hm_isa.specs.declared.Instr.TheVariants as instr
 use Rattle.hm_isa.specs.declared.Vector.{Vector}
 use Rattle.hm_order.specs.Beats.{then}
 use Rattle.hm_order.specs.Machine.{Broken, Config, End, Stopped, begin as begin_row, begun, did, done, fault_end, older, older_of, settle, younger, younger_of}
-use Rattle.hm_order.specs.Turns.{Turn, Older, Younger, turn}
+use Rattle.hm_order.specs.Turns.{Which, Older, Younger, turn}
 use Rattle.hm_rows.proofs.Context.{context_fresh, fresh}
 use Rattle.hm_rows.specs.Context.{with_context}
 use Rattle.hm_run.specs.declared.Cause.{Cause}
@@ -101,7 +101,7 @@ module _ (listing : Listing) (s : Sched) (acts : List Interrupted) where
   younger_tells c None (Some j) h = did_tells c ((M.rows.act j c.b).run c.state) h
   younger_tells c None None h = tt
 
-  turn_tells : (t : Turn) (c : Config State) → Tells c.state acts → ConfigTells acts (turn M t c)
+  turn_tells : (t : Which) (c : Config State) → Tells c.state acts → ConfigTells acts (turn M t c)
   turn_tells Older c h = older_tells c (M.code (M.rows.view.pc c.state)) h
   turn_tells Younger c h =
       younger_tells c (M.rule (M.code (M.rows.view.pc c.state)) (M.code (M.rows.view.pc c.state + 4)) c) (M.code (M.rows.view.pc c.state + 4)) h
@@ -145,13 +145,13 @@ module _ (listing : Listing) (s : Sched) where
   handles_tells (Err f) c x acts h =
       uncounted_tells listing s (x ∷ acts) c (older (program_under listing s (x ∷ acts)) c) (turn_tells listing s (x ∷ acts) Older c h)
 
-  handler_tells : (t : Turn) (c : Config State) (x : Interrupted) (acts : List Interrupted) → Tells c.state (x ∷ acts)
+  handler_tells : (t : Which) (c : Config State) (x : Interrupted) (acts : List Interrupted) → Tells c.state (x ∷ acts)
       → StepTells (handler_step listing s t c x acts)
   handler_tells Older c x acts h = handles_tells (listing c.state.pc) c x acts h
   handler_tells Younger c x acts h =
       uncounted_tells listing s (x ∷ acts) c (younger (program_under listing s (x ∷ acts)) c) (turn_tells listing s (x ∷ acts) Younger c h)
 
-  under_tells : (t : Turn) (c : Config State) (acts : List Interrupted) → Tells c.state acts → StepTells (step_under listing s t c acts)
+  under_tells : (t : Which) (c : Config State) (acts : List Interrupted) → Tells c.state acts → StepTells (step_under listing s t c acts)
   under_tells t c [] h = with_tells listing s [] (turn (program_under listing s []) t c) (turn_tells listing s [] t c h)
   under_tells t c (x ∷ acts) h = handler_tells t c x acts h
 
@@ -159,7 +159,7 @@ module _ (listing : Listing) (s : Sched) where
   abbrev Steps : NestedStep → Type 0
   Steps r = IfOk r (IsSound s) × StepTells r
 
-  one_step : (t : Turn) (x : Nested) → IsSound s x → Steps (step listing s t x)
+  one_step : (t : Which) (x : Nested) → IsSound s x → Steps (step listing s t x)
   one_step t x h = (step_sound s listing t x h, under_tells t x.config x.acts (h.number, h.stacked))
 
   then_steps : (r : NestedStep) (f : Nested → NestedStep) → Steps r → ((y : Nested) → IsSound s y → Steps (f y)) → Steps (then r f)

@@ -65,7 +65,7 @@ fn wide_row(tokens: &[Token<'_>], pc: u32, address: u32) -> Option<Instr>
 }
 
 /// The row, no vector row, that has these tokens, of which none is a range.
-fn row_of(tokens: &[Token<'_>], pc: u32, address: u32) -> Option<Instr>
+fn row_with(tokens: &[Token<'_>], pc: u32, address: u32) -> Option<Instr>
     ensures found { IfSome result (λ i. IsRowOf (map tok tokens.now) pc address i) }
     ensures only { (i : Instr) → IsRowOf (map tok tokens.now) pc address i → result ≡ Some i }
 {
@@ -82,7 +82,7 @@ pub fn read_row(tokens: &[Token<'_>], pc: u32, address: u32) -> Option<Instr>
     ensures only { (i : Instr) → IsRowOf (normal (map tok tokens.now)) pc address i → result ≡ Some i }
 {
     let single = single_registers(tokens)?;
-    row_of(single.as_slice(), pc, address)
+    row_with(single.as_slice(), pc, address)
 }
 
 /// The shape of tokens of which none is a range. Each text with a label is that of a row at 0 whose label names 4.
@@ -92,7 +92,7 @@ fn single_shape<'a>(tokens: &[Token<'a>]) -> Option<Shape<'a>>
     ensures only { (i : Instr) (t : Tok) → HasTokens i t (map tok tokens.now)
         → option_map {U = Seen} (λ s. (s.width, option_map tok s.label)) result ≡ Some (width_of i, label_of i t) }
 {
-    let i = row_of(tokens, 0, 4)?;
+    let i = row_with(tokens, 0, 4)?;
     let label = label_in(has_label(&i), tokens);
     Some(Shape {
         width: width(&i),

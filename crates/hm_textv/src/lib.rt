@@ -30,7 +30,7 @@ pub fn print_v(v: &Vector) -> ArrayString<96>
 const LAST: u64 = 0xffff_ffff;
 
 /// The row that has these tokens: that of the code that they are given, if it has them.
-fn row_of(tokens: &[Token<'_>]) -> Option<Vector>
+fn row_with(tokens: &[Token<'_>]) -> Option<Vector>
     ensures found { IfSome result (λ v. HasTokens v (map tok tokens.now)) }
     ensures only { (v : Vector) → HasTokens v (map tok tokens.now) → result ≡ Some v }
 {
@@ -52,5 +52,5 @@ pub fn parse_v(text: &[u8]) -> Option<Vector>
     ensures only { (v : Vector) → IsTextOf text.now v → result ≡ Some v }
 {
     let tokens = read_tokens(text)?;
-    row_of(tokens.as_slice())
+    row_with(tokens.as_slice())
 }

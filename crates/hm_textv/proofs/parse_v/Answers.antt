@@ -8,10 +8,10 @@ returns-in_err-tokens-clause-only c v is = absurd (text_none c.args.text.now c.i
 
 pub returns-clause-found : goal.returns-clause-found
 returns-clause-found c =
-    text_found c.args.text.now (map tok c.in_ok-tokens.tokens.items) c.row_of.result c.in_ok-tokens.ensures.found
-    (rw c.as_slice.ensures.value at c.row_of.ensures.found)
+    text_found c.args.text.now (map tok c.in_ok-tokens.tokens.items) c.row_with.result c.in_ok-tokens.ensures.found
+    (rw c.as_slice.ensures.value at c.row_with.ensures.found)
 
 pub returns-clause-only : goal.returns-clause-only
 returns-clause-only c =
-    text_only c.args.text.now (map tok c.in_ok-tokens.tokens.items) c.row_of.result c.in_ok-tokens.ensures.only
-    (rw c.as_slice.ensures.value at c.row_of.ensures.only)
+    text_only c.args.text.now (map tok c.in_ok-tokens.tokens.items) c.row_with.result c.in_ok-tokens.ensures.only
+    (rw c.as_slice.ensures.value at c.row_with.ensures.only)

@@ -12,10 +12,10 @@ returns-in_err-single-clause-only c i is =
 
 pub returns-clause-found : goal.returns-clause-found
 returns-clause-found c =
-    subst (λ (x : List Tok). IfSome c.row_of.result (λ i. IsRowOf x c.args.pc c.args.address i)) c.in_ok-single.ensures.found
-    (rw c.as_slice.ensures.value at c.row_of.ensures.found)
+    subst (λ (x : List Tok). IfSome c.row_with.result (λ i. IsRowOf x c.args.pc c.args.address i)) c.in_ok-single.ensures.found
+    (rw c.as_slice.ensures.value at c.row_with.ensures.found)
 
 pub returns-clause-only : goal.returns-clause-only
 returns-clause-only c =
-    subst (λ (x : List Tok). (i : Instr) → IsRowOf x c.args.pc c.args.address i → c.row_of.result ≡ Some i) c.in_ok-single.ensures.found
-    (rw c.as_slice.ensures.value at c.row_of.ensures.only)
+    subst (λ (x : List Tok). (i : Instr) → IsRowOf x c.args.pc c.args.address i → c.row_with.result ≡ Some i) c.in_ok-single.ensures.found
+    (rw c.as_slice.ensures.value at c.row_with.ensures.only)

@@ -2,7 +2,7 @@ use Rattle.std.proofs.Common.{Some, ap, map}
 use Rattle.hm_isa.specs.declared.Instr.{Instr}
 use Rattle.hm_tokens.specs.Tokens.{tok}
 use Rattle.hm_text.proofs.OneRow.{one_row, only_wide}
-use Rattle.hm_text.proofs.reading.row_of.Goals as goal
+use Rattle.hm_text.proofs.reading.row_with.Goals as goal
 
 pub returns-in-Some-clause-only : goal.returns-in-Some-clause-only
 returns-in-Some-clause-only c i is =

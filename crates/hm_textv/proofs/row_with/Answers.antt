@@ -2,7 +2,7 @@ use Rattle.std.proofs.Common.{map, sym, ◌∙◌}
 use Rattle.std.proofs.lemmas.Bool.{false≢true}
 use Rattle.hm_tokens.specs.Tokens.{tok}
 use Rattle.hm_textv.proofs.Parsing.{no_code, no_row, other_row, the_row, too_large}
-use Rattle.hm_textv.proofs.row_of.Goals as goal
+use Rattle.hm_textv.proofs.row_with.Goals as goal
 
 pub returns-in_err-code-clause-only : goal.returns-in_err-code-clause-only
 returns-in_err-code-clause-only c v has = absurd (no_code (map tok c.args.tokens.now) c.in_err-code.ensures.code v has)
