@@ -32,7 +32,7 @@ long_writes r s =
     let sum = added (2 ^ 64) (long_term r) (firsts r.z (predicate_at s)) (elements r.z r.n.value s) (elements r.z r.m.value s) start in
     into (write low (sum % 2 ^ 32)) ∷ into (write high (sum / 2 ^ 32)) ∷ []
 
--- V23: VMAXV, VMINV, VMAXAV and VMINAV: the best of a register's old value and of the elements of a vector register
+-- V23: VMAXV and VMINV: the best of a register's old value and of the elements of a vector register
 -- (DDI0553, "VMAXV, VMAXAV" and "VMINV, VMINAV")
 abbrev pub extreme_writes : V23 → State → List (Cell × Value)
 extreme_writes r s =
