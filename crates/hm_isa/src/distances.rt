@@ -1,9 +1,8 @@
 //! How far branches go, in bytes from the address of the instruction plus 4, modulo 2^32.
 
-ghost use Rattle.std.specs.Prelude.{◌≡◌, ◌<◌};
-ghost use Rattle.hm_isa.specs.Distances.{alike, always_distance, conditional_distance, wide_always_distance, wide_conditional_distance};
+ghost use Rattle.std.specs.Prelude.{◌≡◌};
+ghost use Rattle.hm_isa.specs.Distances.{always_distance, conditional_distance, wide_always_distance, wide_conditional_distance};
 
-use crate::fields::Bit;
 use crate::jumps::{WideAlways, WideConditional};
 use crate::narrow::{Always, Conditional};
 use crate::words::sign_extended;
@@ -26,14 +25,6 @@ impl Always {
     }
 }
 
-/// 1 where two bits are the same, and else 0.
-fn alike(j: Bit, s: Bit) -> u32
-    ensures value { result ≡ alike j.value s.value }
-    ensures below { result < 2 }
-{
-    if j.get() == s.get() { 1 } else { 0 }
-}
-
 impl WideConditional {
     /// How far a branch of two halfwords under a condition goes, which is `s:j2:j1:i6:i11:0` with its sign: DDI0553, "B", encoding T3.
     pub fn distance(&self) -> u32
@@ -51,8 +42,8 @@ impl WideAlways {
         ensures value { result ≡ wide_always_distance self.now }
     {
         let high = self.s.get() * 0x100_0000
-            + alike(self.j1, self.s) * 0x80_0000
-            + alike(self.j2, self.s) * 0x40_0000;
+            + u32::from(self.j1.get() == self.s.get()) * 0x80_0000
+            + u32::from(self.j2.get() == self.s.get()) * 0x40_0000;
         sign_extended(25, high + self.i10.get() * 0x1000 + self.i11.get() * 2)
     }
 }

@@ -40,14 +40,6 @@ fn conditional_code(c: u32, pc: u32, a: u32) -> u64
     conditional_fields(c, distance(u64::from(pc) + 4, a) / 2)
 }
 
-/// The bit that two bits are coded by: 1 where they are the same.
-fn alike(x: u64, s: u64) -> u64
-    ensures value { result ≡ alike x s }
-    ensures below { result < 2 }
-{
-    if x == s { 1 } else { 0 }
-}
-
 /// A row T16 without a condition, at half the distance f, s:I1:I2:i10:i11.
 fn always_fields(base: u64, f: u64) -> u64
     requires { base < 2 ^ 40 }
@@ -57,8 +49,8 @@ fn always_fields(base: u64, f: u64) -> u64
     let s = f / 0x80_0000 % 2;
     base + (s << 26)
         + (f / 0x800 % 1024 << 16)
-        + (alike(f / 0x40_0000 % 2, s) << 13)
-        + (alike(f / 0x20_0000 % 2, s) << 11)
+        + (u64::from(f / 0x40_0000 % 2 == s) << 13)
+        + (u64::from(f / 0x20_0000 % 2 == s) << 11)
         + f % 0x800
 }
 
