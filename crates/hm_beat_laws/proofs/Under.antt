@@ -17,7 +17,7 @@ use Rattle.hm_forms_across.specs.declared.sums.Sums.{Sums}
 use Rattle.hm_forms.specs.declared.form.Form.{Form}
 use Rattle.hm_forms.specs.declared.form.Form.TheVariants as form
 use Rattle.hm_forms_elements.specs.Forms.{begins, narrow_saturates, offset_after, offsets_from, shift_of, subtracts}
-use Rattle.hm_forms_across.specs.Forms.{added, best, long_term, term_of}
+use Rattle.hm_forms_across.specs.Forms.{added, best, term}
 use Rattle.hm_lane_fns.specs.Registers.{elements, saturating}
 use Rattle.hm_forms_elements.specs.Registers.{bits_from, constant_result, flags_from, lanes_result, lanes_saturated, widening_result, narrow_result}
 use Rattle.hm_forms_elements.specs.Registers.{narrow_saturated, reversed_result, round_at, shifted_from, sums_from, complex_sum_result, wide_result}
@@ -63,7 +63,7 @@ abbrev pub sum_under : List Bool → Sums → State → List (Cell × Value)
 sum_under ps r s =
     let place = R (2 * r.l.value) in
     let start = cond r.goes_on (at place s) 0 in
-    let sum = added (2 ^ 32) (term_of r) (firsts r.z ps) (elements r.z r.n.value s) (elements r.z r.m.value s) start in
+    let sum = added (2 ^ 32) (term r.terms) (firsts r.terms.z ps) (elements r.terms.z r.n.value s) (elements r.terms.z r.m.value s) start in
     into (write place sum) ∷ []
 
 -- V22: what VADDLV and VMLALDAV write under these truth values (DDI0553, "VADDLV" and "VMLALDAV")
@@ -72,7 +72,7 @@ long_under ps r s =
     let low = R (2 * r.l.value) in
     let high = R (2 * r.h.value + 1) in
     let start = cond r.goes_on (at low s + 2 ^ 32 * at high s) 0 in
-    let sum = added (2 ^ 64) (long_term r) (firsts r.z ps) (elements r.z r.n.value s) (elements r.z r.m.value s) start in
+    let sum = added (2 ^ 64) (term r.terms) (firsts r.terms.z ps) (elements r.terms.z r.n.value s) (elements r.terms.z r.m.value s) start in
     into (write low (sum % 2 ^ 32)) ∷ into (write high (sum / 2 ^ 32)) ∷ []
 
 -- V23: what VMAXV and VMINV write under these truth values (DDI0553, "VMAXV, VMAXAV" and "VMINV, VMINAV")

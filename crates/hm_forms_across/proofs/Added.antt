@@ -1,5 +1,5 @@
 -- The terms of a word, one after another.
-use Rattle.std.proofs.Common.{◌≡◌, ℕ, ◌+◌, ◌%◌, Bool, false, get_or, length, cond, List, [], ◌∷◌, refl, ◌∙◌, arith}
+use Rattle.std.proofs.Common.{◌≡◌, ℕ, ◌+◌, ◌%◌, ◌^◌, Bool, true, false, get_or, length, cond, List, [], ◌∷◌, refl, ap, ◌∙◌, arith}
 use Rattle.hm_forms_across.specs.Forms.{added}
 
 module _ (m : ℕ) (f : ℕ → ℕ → ℕ) where
@@ -27,3 +27,14 @@ module _ (m : ℕ) (f : ℕ → ℕ → ℕ) where
       ∙ (λ j. plus (get_or a 3 false) (plus (get_or a 2 false) (plus (get_or a 1 false) (plus (get_or a 0 false) sum (e0 j)) (f (u 1) (v 1))) (f (u 2) (v 2)))
       (f (u 3) (v 3)))
       ∙ four_active a four (u 0) (u 1) (u 2) (u 3) (v 0) (v 1) (v 2) (v 3) sum
+
+-- the low word of a sum of 64 bits is the sum of 32 bits that begins with its low word
+pub added_low : (f : ℕ → ℕ → ℕ) (ps : List Bool) (xs ys : List ℕ) (sum : ℕ) → added (2 ^ 64) f ps xs ys sum % 2 ^ 32 ≡ added (2 ^ 32) f ps xs ys (sum % 2 ^ 32)
+added_low f (p ∷ ps) (x ∷ xs) (y ∷ ys) sum = added_low f ps xs ys (cond p ((sum + f x y) % 2 ^ 64) sum) ∙ ap (added (2 ^ 32) f ps xs ys) (one p)
+  where
+    one : (p : Bool) → cond p ((sum + f x y) % 2 ^ 64) sum % 2 ^ 32 ≡ cond p ((sum % 2 ^ 32 + f x y) % 2 ^ 32) (sum % 2 ^ 32)
+    one true = omega arith
+    one false = refl
+added_low f [] xs ys sum = refl
+added_low f (p ∷ ps) [] ys sum = refl
+added_low f (p ∷ ps) (x ∷ xs) [] sum = refl

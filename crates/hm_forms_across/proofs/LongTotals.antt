@@ -9,7 +9,7 @@ use Rattle.hm_state.specs.State.{At, Cell, State, Value, at, cells, same_cell, w
 use Rattle.hm_beat.specs.Rows.{active_at, advance_half, retired, word_place}
 use Rattle.hm_kinds.specs.Row.{Row, ends_at, linked, row_by_words}
 use Rattle.hm_forms_across.specs.declared.long_sums.LongSums.{LongSums}
-use Rattle.hm_forms_across.specs.Forms.{added, long_row, long_term}
+use Rattle.hm_forms_across.specs.Forms.{added, long_row, term}
 use Rattle.hm_lane_fns.specs.Registers.{advancing}
 use Rattle.hm_forms_across.specs.Registers.{long_writes}
 use Rattle.hm_lane_fns.proofs.Lanewise.{advances}
@@ -37,7 +37,7 @@ module _ (r : LongSums) (s : State) (runs : (ltb (at Ltp s) 4 ≡ false) ⊎ (eq
   y b = at (word_place r.m.value b) s
 
   abbrev terms : ℕ → ℕ → ℕ
-  terms b sum = word_added (2 ^ 64) (long_term r) r.z s x y b sum
+  terms b sum = word_added (2 ^ 64) (term r.terms) r.terms.z s x y b sum
 
   -- a state with the two parts of a sum in their registers
   abbrev put_sum : ℕ → State → State
@@ -95,7 +95,7 @@ module _ (r : LongSums) (s : State) (runs : (ltb (at Ltp s) 4 ≡ false) ⊎ (eq
 
   -- the sum after word b, from one in two parts
   abbrev sum_after : ℕ → List Bool → ℕ → ℕ
-  sum_after b active v = added (2 ^ 64) (long_term r) (firsts r.z active) (lanes r.z (bytes_of (x b))) (lanes r.z (bytes_of (y b)))
+  sum_after b active v = added (2 ^ 64) (term r.terms) (firsts r.terms.z active) (lanes r.terms.z (bytes_of (x b))) (lanes r.terms.z (bytes_of (y b)))
       (cond (not r.goes_on && eqb b 0) 0 v)
 
   abbrev put_fit : ℕ → State → State
@@ -141,4 +141,4 @@ module _ (r : LongSums) (s : State) (runs : (ltb (at Ltp s) 4 ≡ false) ⊎ (eq
   long_is = (λ j. over (after_0 j) (after_1 j) (after_2 j) (after_3 j))
       ∙ ap retired (advances form_row s (with_sum s3) refl refl)
       ∙ (λ j. retired (put_all cells (advance_half 0 s ++ advance_half 2 s) (sym (fitted s3 s) j)))
-      ∙ (λ j. retired (put_all cells (advance_half 0 s ++ advance_half 2 s) (put_fit (sym (whole_added (2 ^ 64) (long_term r) r.z s x y start) j) s)))
+      ∙ (λ j. retired (put_all cells (advance_half 0 s ++ advance_half 2 s) (put_fit (sym (whole_added (2 ^ 64) (term r.terms) r.terms.z s x y start) j) s)))

@@ -11,7 +11,7 @@ use Rattle.hm_state.specs.State.{At, State, at, cells, word}
 use Rattle.hm_beat.specs.Rows.{active_at, advance_half, predicate_at, retired, word_place}
 use Rattle.hm_kinds.specs.Row.{Row, ends_at, linked, row_by_words}
 use Rattle.hm_forms_across.specs.declared.sums.Sums.{Sums}
-use Rattle.hm_forms_across.specs.Forms.{added, sum_next, sum_row, term_of}
+use Rattle.hm_forms_across.specs.Forms.{added, sum_next, sum_row, term}
 use Rattle.hm_lane_fns.specs.Registers.{advancing}
 use Rattle.hm_forms_across.specs.Registers.{sum_writes}
 use Rattle.hm_lane_fns.proofs.Handed.{active_any, put_twice}
@@ -74,7 +74,7 @@ module _ (r : Sums) (s : State) (runs : (ltb (at Ltp s) 4 ≡ false) ⊎ (eqb (2
   y b = at (word_place r.m.value b) s
 
   abbrev terms : ℕ → ℕ → ℕ
-  terms b sum = word_added (2 ^ 32) (term_of r) r.z s x y b sum
+  terms b sum = word_added (2 ^ 32) (term r.terms) r.terms.z s x y b sum
 
   -- the state with a sum in its register
   abbrev with_sum : ℕ → State
@@ -153,4 +153,4 @@ module _ (r : Sums) (s : State) (runs : (ltb (at Ltp s) 4 ≡ false) ⊎ (eqb (2
       ∙ ap retired (advances form_row s (with_sum s3) refl refl)
       ∙ (λ j. retired (put_all cells (advance_half 0 s ++ advance_half 2 s) (put cells (At (R (2 * r.l.value))) (word (sym (fit_is s3) j)) s)))
       ∙ (λ j. retired (put_all cells (advance_half 0 s ++ advance_half 2 s)
-      (put cells (At (R (2 * r.l.value))) (word (fit (R (2 * r.l.value)) (sym (whole_added (2 ^ 32) (term_of r) r.z s x y start) j))) s)))
+      (put cells (At (R (2 * r.l.value))) (word (fit (R (2 * r.l.value)) (sym (whole_added (2 ^ 32) (term r.terms) r.terms.z s x y start) j))) s)))

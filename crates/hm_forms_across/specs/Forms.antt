@@ -1,39 +1,34 @@
 -- The forms of vector rows that go on across the words of a register: sums and extremes.
-use Rattle.std.specs.Prelude.{ℕ, ◌+◌, ◌-◌, ◌*◌, ◌/◌, ◌%◌, ◌^◌, Bool, false, not, ◌&&◌, ◌||◌, cond, eqb, ltb, nat_eq, List, [], ◌∷◌, map, None, ℤ}
+use Rattle.std.specs.Prelude.{ℕ, ◌+◌, ◌*◌, ◌/◌, ◌%◌, ◌^◌, Bool, false, not, ◌&&◌, cond, eqb, nat_eq, List, [], ◌∷◌, map, None, ℤ}
 use Rattle.std.specs.Int.{int_max, int_min}
 use Rattle.hm_base.specs.declared.Place.TheVariants.{R}
 use Rattle.hm_isa.specs.declared.vectors.V23.{V23}
 use Rattle.hm_isa.specs.declared.vectors.ExtremeName.{ExtremeName}
 use Rattle.hm_isa.specs.declared.vectors.ExtremeName.TheVariants as extreme
-use Rattle.hm_lane.specs.declared.lanes.Size.{Size}
 use Rattle.hm_lane.specs.declared.lanes.Size.TheVariants.{Word}
 use Rattle.hm_lane.specs.Lanes.{bytes_of, firsts, lanes, modulus}
 use Rattle.hm_beat.specs.Rows.{word_place}
 use Rattle.hm_kinds.specs.Row.{Row}
-use Rattle.hm_lane_fns.specs.LaneFns.{cut, half, lane_value}
+use Rattle.hm_lane_fns.specs.LaneFns.{cut, extended_long, lane_value}
 use Rattle.hm_lane_fns.specs.Words.{size_of}
-use Rattle.hm_lane_fns.specs.LaneFns.{extended_long}
 use Rattle.hm_forms_across.specs.declared.long_sums.LongSums.{LongSums}
 use Rattle.hm_forms_across.specs.declared.sums.Sums.{Sums}
+use Rattle.hm_forms_across.specs.declared.terms.Terms.{Terms}
 
 -- A SUM
--- a lane extended to a word
-abbrev pub extended_word : Bool → Size → ℕ → ℕ
-extended_word unsigned z x = cond (unsigned || ltb x (half z)) x (x + (2 ^ 32 - modulus z))
-
 -- f of each active pair of lanes is added, modulo m
 abbrev pub added : ℕ → (ℕ → ℕ → ℕ) → List Bool → List ℕ → List ℕ → ℕ → ℕ
 added m f (p ∷ ps) (x ∷ xs) (y ∷ ys) sum = added m f ps xs ys (cond p ((sum + f x y) % m) sum)
 added m f _ _ _ sum = sum
 
--- V22: what a pair of elements adds to a sum of 32 bits: their product for VMLADAV, the second one for VADDV
-abbrev pub term_of : Sums → ℕ → ℕ → ℕ
-term_of r x y = cond r.products (extended_word r.unsigned r.z x * extended_word r.unsigned r.z y) (extended_word r.unsigned r.z y)
+-- V22: what a pair of elements adds, modulo 2^64: their product for VMLADAV and VMLALDAV, the second one for VADDV and VADDLV
+abbrev pub term : Terms → ℕ → ℕ → ℕ
+term t x y = cond t.products (extended_long t.unsigned t.z x * extended_long t.unsigned t.z y % 2 ^ 64) (extended_long t.unsigned t.z y)
 
 -- V22: the sum of VADDV or VMLADAV after beat b; one that does not go on from the register begins at 0 on the first beat
 abbrev pub sum_next : Sums → ℕ → List Bool → List ℕ → ℕ
 sum_next r b active (sum ∷ x ∷ y ∷ vs) =
-    added (2 ^ 32) (term_of r) (firsts r.z active) (lanes r.z (bytes_of x)) (lanes r.z (bytes_of y)) (cond (not r.goes_on && eqb b 0) 0 sum)
+    added (2 ^ 32) (term r.terms) (firsts r.terms.z active) (lanes r.terms.z (bytes_of x)) (lanes r.terms.z (bytes_of y)) (cond (not r.goes_on && eqb b 0) 0 sum)
 sum_next r b active _ = 0
 
 -- V22: VADDV and VMLADAV, beat by beat (DDI0553, "VADDV" and "VMLADAV")
@@ -49,14 +44,10 @@ sum_row r = record {
 }
 
 -- A SUM OF 64 BITS
--- V22: what a pair of elements adds to a sum of 64 bits: their product for VMLALDAV, the second one for VADDLV
-abbrev pub long_term : LongSums → ℕ → ℕ → ℕ
-long_term r x y = cond r.products (extended_long r.unsigned r.z x * extended_long r.unsigned r.z y % 2 ^ 64) (extended_long r.unsigned r.z y)
-
 -- V22: the sum of VADDLV or VMLALDAV after beat b; one that does not go on from its registers begins at 0 on the first beat
 abbrev pub long_next : LongSums → ℕ → List Bool → List ℕ → ℕ
 long_next r b active (low ∷ high ∷ x ∷ y ∷ vs) =
-    added (2 ^ 64) (long_term r) (firsts r.z active) (lanes r.z (bytes_of x)) (lanes r.z (bytes_of y)) (cond (not r.goes_on && eqb b 0) 0 (low + 2 ^ 32 * high))
+    added (2 ^ 64) (term r.terms) (firsts r.terms.z active) (lanes r.terms.z (bytes_of x)) (lanes r.terms.z (bytes_of y)) (cond (not r.goes_on && eqb b 0) 0 (low + 2 ^ 32 * high))
 long_next r b active _ = 0
 
 -- V22: VADDLV and VMLALDAV, beat by beat (DDI0553, "VADDLV" and "VMLALDAV")

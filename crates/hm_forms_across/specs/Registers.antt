@@ -12,7 +12,7 @@ use Rattle.hm_lane_fns.specs.Words.{size_of}
 use Rattle.hm_lane_fns.specs.Registers.{elements}
 use Rattle.hm_forms_across.specs.declared.long_sums.LongSums.{LongSums}
 use Rattle.hm_forms_across.specs.declared.sums.Sums.{Sums}
-use Rattle.hm_forms_across.specs.Forms.{added, best, long_term, term_of}
+use Rattle.hm_forms_across.specs.Forms.{added, best, term}
 
 -- V22: VADDV, VADDVA, VMLADAV and VMLADAVA: the elements of a register, or the products of those of two, are added to a register one after another
 -- (DDI0553, "VADDV" and "VMLADAV")
@@ -20,7 +20,7 @@ abbrev pub sum_writes : Sums → State → List (Cell × Value)
 sum_writes r s =
     let place = R (2 * r.l.value) in
     let start = cond r.goes_on (at place s) 0 in
-    let sum = added (2 ^ 32) (term_of r) (firsts r.z (predicate_at s)) (elements r.z r.n.value s) (elements r.z r.m.value s) start in
+    let sum = added (2 ^ 32) (term r.terms) (firsts r.terms.z (predicate_at s)) (elements r.terms.z r.n.value s) (elements r.terms.z r.m.value s) start in
     into (write place sum) ∷ []
 
 -- V22: VADDLV, VADDLVA, VMLALDAV and VMLALDAVA: the same in two registers (DDI0553, "VADDLV" and "VMLALDAV")
@@ -29,7 +29,7 @@ long_writes r s =
     let low = R (2 * r.l.value) in
     let high = R (2 * r.h.value + 1) in
     let start = cond r.goes_on (at low s + 2 ^ 32 * at high s) 0 in
-    let sum = added (2 ^ 64) (long_term r) (firsts r.z (predicate_at s)) (elements r.z r.n.value s) (elements r.z r.m.value s) start in
+    let sum = added (2 ^ 64) (term r.terms) (firsts r.terms.z (predicate_at s)) (elements r.terms.z r.n.value s) (elements r.terms.z r.m.value s) start in
     into (write low (sum % 2 ^ 32)) ∷ into (write high (sum / 2 ^ 32)) ∷ []
 
 -- V23: VMAXV and VMINV: the best of a register's old value and of the elements of a vector register

@@ -1,6 +1,6 @@
 //! `vaddlv` and `vmlaldav`.
 
-ghost use Rattle.std.specs.Prelude.{◌≡◌, ℕ, ◌+◌, ◌*◌, ◌%◌, ◌^◌, ◌<◌, ◌&&◌, cond, eqb, not, true, List, [], Ok};
+ghost use Rattle.std.specs.Prelude.{◌≡◌, ℕ, ◌+◌, ◌*◌, ◌^◌, ◌<◌, ◌&&◌, cond, eqb, not, true, List, [], Ok};
 ghost use Rattle.hm_base.specs.Place.{IsPlace};
 ghost use Rattle.hm_mem.specs.Memory.{Memory};
 ghost use Rattle.hm_state.specs.State.{state_of};
@@ -8,25 +8,20 @@ ghost use Rattle.hm_beat.specs.Laws.{run};
 ghost use Rattle.hm_beat.specs.Rows.{word_place};
 ghost use Rattle.hm_beat.specs.Touches.{reads_in, writes_in};
 ghost use Rattle.hm_kinds.specs.Row.{is_body, row_tree};
-ghost use Rattle.hm_lane.specs.declared.lanes.Size.TheVariants as size;
-ghost use Rattle.hm_lane.specs.Lanes.{bytes_of, firsts, lanes, modulus};
-ghost use Rattle.hm_forms_across.specs.Forms.{added, long_row, long_term};
+ghost use Rattle.hm_forms_across.specs.Forms.{long_row};
 
+use crate::terms::{Terms, sum_word};
 use hm_base::{Place, Places, note};
 use hm_beat::Touch;
 use hm_isa::{Below, QRegister};
 use hm_kinds::{Shape, Written, active, finish_row, read, touch_row};
-use hm_lane::{Size, bytes};
-use hm_lane_fns::{extended_long, word_place};
+use hm_lane_fns::word_place;
 use hm_regs::Regs;
 
 /// A sum of elements, or of products of elements, into two registers.
 #[derive(Clone, Copy)]
 pub struct LongSums {
-    /// Whether products are added, or else the elements of `m`.
-    pub products: bool,
-    pub unsigned: bool,
-    pub z: Size,
+    pub terms: Terms,
     /// Whether the sum goes on from the old value.
     pub goes_on: bool,
     /// The low word of the sum is in r(2l).
@@ -36,61 +31,6 @@ pub struct LongSums {
     /// The register of the first operands; `m` again where there are no products.
     pub n: QRegister,
     pub m: QRegister,
-}
-
-/// What a pair of lanes adds.
-fn term(row: &LongSums, x: u32, y: u32) -> u64
-    requires first { x < modulus row.now.z }
-    requires second { y < modulus row.now.z }
-    ensures { result ≡ long_term row.now x y }
-{
-    let b = extended_long(row.unsigned, row.z, y);
-    if row.products {
-        extended_long(row.unsigned, row.z, x).wrapping_mul(b)
-    } else {
-        b
-    }
-}
-
-/// A sum with one more term where it is active.
-fn plus(active: bool, sum: u64, term: u64) -> u64
-    ensures { result ≡ cond active ((sum + term) % 2 ^ 64) sum }
-{
-    if active { sum.wrapping_add(term) } else { sum }
-}
-
-/// A sum with the terms of the bytes of a word.
-fn sum_bytes(row: &LongSums, active: [bool; 4], x: u32, y: u32, sum: u64) -> u64
-    requires { row.now.z ≡ size.Byte }
-    ensures { result ≡ added (2 ^ 64) (long_term row.now) active (bytes_of x) (bytes_of y) sum }
-{
-    let [p0, p1, p2, p3] = active;
-    let [x0, x1, x2, x3] = bytes(x);
-    let [y0, y1, y2, y3] = bytes(y);
-    let t0 = term(row, x0 as u32, y0 as u32);
-    let t1 = term(row, x1 as u32, y1 as u32);
-    let t2 = term(row, x2 as u32, y2 as u32);
-    let t3 = term(row, x3 as u32, y3 as u32);
-    let s0 = plus(p0, sum, t0);
-    let s1 = plus(p1, s0, t1);
-    let s2 = plus(p2, s1, t2);
-    plus(p3, s2, t3)
-}
-
-/// A sum with the terms of a word.
-fn sum_word(row: &LongSums, active: [bool; 4], x: u32, y: u32, sum: u64) -> u64
-    ensures { result ≡ added (2 ^ 64) (long_term row.now) (firsts row.now.z active)
-        (lanes row.now.z (bytes_of x)) (lanes row.now.z (bytes_of y)) sum }
-{
-    let [p0, _, p2, _] = active;
-    match row.z {
-        Size::Byte => sum_bytes(row, active, x, y, sum),
-        Size::Half => {
-            let s0 = plus(p0, sum, term(row, x % 65536, y % 65536));
-            plus(p2, s0, term(row, x >> 16, y >> 16))
-        }
-        Size::Word => plus(p0, sum, term(row, x, y)),
-    }
 }
 
 /// What the sum of beat `b` begins with.
@@ -141,7 +81,7 @@ pub fn beat_long(row: &LongSums, b: u8, r: &mut Regs)
     let x = read(r, word_place(&row.n, b));
     let y = read(r, word_place(&row.m, b));
     let active = active(r, b);
-    let sum = sum_word(row, active, x, y, start(row, b, old_low, old_high));
+    let sum = sum_word(row.terms, active, x, y, start(row, b, old_low, old_high));
     let first = Written {
         place: low,
         value: (sum % 0x1_0000_0000) as u32,

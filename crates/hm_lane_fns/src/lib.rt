@@ -5,7 +5,7 @@ mod functions;
 mod words;
 
 pub use functions::{
-    LaneFn, bit_count, clamped, cut, extended_long, half, halved, is_outside, lane, lane_saturates,
+    LaneFn, bit_count, clamped, cut, extended_long, halved, is_outside, lane, lane_saturates,
     lane_value, saturates,
 };
 pub use words::{

@@ -8,7 +8,7 @@ ghost use Rattle.hm_rows.specs.Rows.{Registers, add_fn, bitwise_fn, compare_form
 ghost use Rattle.hm_rows.specs.Rows.{one_fn, one_form, predicate_form, scalar_fn, shift_operand, shift_unsigned, signed_fn, sum_form};
 ghost use Rattle.hm_rows.specs.Rows.{vector_shift_fn};
 
-use hm_forms::{Comparison, Form, Lanes, LongSums, Steps, Sums, Widening};
+use hm_forms::{Comparison, Form, Lanes, LongSums, Steps, Sums, Terms, Widening};
 use hm_isa::{
     AddName, BitwiseName, ConstantShiftName, DoublingName, HighName, LongDot, LongSum, OneName,
     QRegister, ScalarName, SignedName, V1, V2, V3, V4, V5, V7, V10, V11, V12, V13, V18, V19, V20,
@@ -296,9 +296,11 @@ fn long_sum_form(row: &LongSum) -> Form
     ensures { result ≡ sum_form (v22.LongSum row.now) }
 {
     Form::Long(LongSums {
-        products: false,
-        unsigned: row.u.get() == 1,
-        z: Size::Word,
+        terms: Terms {
+            products: false,
+            unsigned: row.u.get() == 1,
+            z: Size::Word,
+        },
         goes_on: row.a.get() == 1,
         l: row.l,
         h: row.h,
@@ -317,9 +319,11 @@ fn long_dot_form(row: &LongDot) -> Form
         Size::Half
     };
     Form::Long(LongSums {
-        products: true,
-        unsigned: row.u.get() == 1,
-        z,
+        terms: Terms {
+            products: true,
+            unsigned: row.u.get() == 1,
+            z,
+        },
         goes_on: row.a.get() == 1,
         l: row.l,
         h: row.h,
@@ -334,18 +338,22 @@ pub fn sum_form(row: &V22) -> Form
 {
     match row {
         V22::Sum(row) => Form::Sum(Sums {
-            products: false,
-            unsigned: row.u.get() == 1,
-            z: size(&row.z),
+            terms: Terms {
+                products: false,
+                unsigned: row.u.get() == 1,
+                z: size(&row.z),
+            },
             goes_on: row.a.get() == 1,
             l: row.l,
             n: row.m,
             m: row.m,
         }),
         V22::Dot(row) => Form::Sum(Sums {
-            products: true,
-            unsigned: row.u.get() == 1,
-            z: element_size(row.size),
+            terms: Terms {
+                products: true,
+                unsigned: row.u.get() == 1,
+                z: element_size(row.size),
+            },
             goes_on: row.a.get() == 1,
             l: row.l,
             n: row.n,
