@@ -14,7 +14,7 @@ use Rattle.hm_mem.specs.declared.Actor.{Actor}
 use Rattle.hm_mem.specs.declared.Actor.TheVariants.{Thread, Handler, Entry}
 use Rattle.hm_mem.specs.Devices.{has_width, in_devices, tells_time, device_word}
 use Rattle.hm_moves.proofs.Accesses.{fault_free, in_memory, within}
-use Rattle.hm_mem.proofs.Stops.{none_left}
+use Rattle.hm_mem.proofs.Stops.{neither_stops}
 use Rattle.hm_whole.specs.Whole.{seen_in}
 use Rattle.hm_mem.specs.Memory.{Around}
 use Rattle.hm_mem.specs.Seen.{fault_kind, is_denied, is_kept, is_thread, is_unaligned, lies_in_flash, lies_in_memory, some_byte, stop_after}
@@ -165,7 +165,7 @@ pub no_fault : (x : Around) (store : Bool) (y : Size) (s : State) (ps : List Boo
 no_fault x store y s [] addrs h = refl
 no_fault x store y s (p ∷ ps) [] h = refl
 no_fault x store y s (p ∷ ps) (a ∷ addrs) h =
-    let none = none_left (cond p (element_stop x store y s a) None) (first_among (element_stop x store y s) ps addrs) h in
+    let none = neither_stops (cond p (element_stop x store y s a) None) (first_among (element_stop x store y s) ps addrs) h in
     let free : element_stop x store y s a ≡ None → fault_after (fault_kind true Vector store (byte_count y) a) a ≡ None
     = λ e. ap (λ k. fault_after k a) (thread_free (is_thread x.actor) store (byte_count y) a (fault_free x store (byte_count y) a (seen_in s) e)) in
     λ j. option_or (where_none p (element_stop x store y s a) (fault_after (fault_kind true Vector store (byte_count y) a) a) free none.0 j)

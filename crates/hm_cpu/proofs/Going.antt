@@ -1,4 +1,4 @@
--- Which steps leave steps of their instruction behind them, and what all steps that are left do.
+-- InFlight steps leave steps of their instruction behind them, and what all steps that are left do.
 use Rattle.std.proofs.Common.{◌≡◌, ℕ, suc, ◌+◌, ◌<◌, ◌≤◌, arith, ap, refl, sym, ◌∙◌, subst, not, IsTrue, Option, Result, Ok, Err}
 use Rattle.hm_base.specs.declared.Fault.{Fault}
 use Rattle.hm_codes.specs.Listing.{IsListing, Listing, Stands}
@@ -16,7 +16,7 @@ use Rattle.hm_cpu.specs.declared.step_ends.LetterEnd.{LetterEnd}
 use Rattle.hm_mem.specs.Memory.{flash_at, memory_of}
 use Rattle.hm_order.specs.Beats.{then}
 use Rattle.hm_order.specs.Machine.{older}
-use Rattle.hm_order.specs.Turns.{Older}
+use Rattle.hm_order.specs.InFlight.{Older}
 use Rattle.hm_run.proofs.Steps.{no_row}
 use Rattle.hm_run.specs.Program.{core, steps_left, vector_in, vector_of}
 use Rattle.hm_run.specs.declared.Cause.{Cause}

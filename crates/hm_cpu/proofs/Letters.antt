@@ -4,7 +4,7 @@ use Rattle.std.proofs.lemmas.Bool.Decides.{nat_tests}
 use Rattle.hm_codes.specs.Listing.{Listing}
 use Rattle.hm_handlers.specs.Nested.{Nested, NestedStep, letter, step, steps, to_end}
 use Rattle.hm_order.specs.Beats.{then}
-use Rattle.hm_order.specs.Turns.{Older, Younger}
+use Rattle.hm_order.specs.InFlight.{Older, Younger}
 use Rattle.hm_sched.specs.Schedule.{Sched, older_letter, younger_letter}
 
 module _ (listing : Listing) (s : Sched) where

@@ -31,7 +31,7 @@ use Rattle.hm_isa.specs.declared.Vector.{Vector}
 use Rattle.hm_mem.specs.Memory.{Around, Memory, byte_at, flash_at, memory_of}
 use Rattle.hm_mem.specs.Seen.{with_actor}
 use Rattle.hm_mem.specs.declared.Actor.{Actor}
-use Rattle.hm_order.specs.Turns.{Which, Older, Younger}
+use Rattle.hm_order.specs.InFlight.{InFlight, Older, Younger}
 use Rattle.hm_order.specs.Machine as order
 use Rattle.hm_order.specs.Machine.{begun, older, younger}
 use Rattle.hm_regs.specs.declared.Regs.{Regs}
@@ -137,7 +137,7 @@ if_ok : (s : Sched) (y : Cpu) (r : Result Unit LetterEnd) → IfOk (stepped r y)
 if_ok s y (Ok u) h = h
 if_ok s y (Err e) h = tt
 
-pub step_stays : (s : Sched) (t : Which) (x y : Cpu) (r : Result Unit LetterEnd)
+pub step_stays : (s : Sched) (t : InFlight) (x y : Cpu) (r : Result Unit LetterEnd)
     → ((listing : Listing) (s : Sched) → IsListing (flash_at (memory_of x.mem)) listing → IsSoundUnder s x → stepped r y ≡ step listing s t (nested_of x))
     → IsSoundUnder s x → OnOk r (IsSoundUnder s y)
 step_stays s t x y r value h =

@@ -10,7 +10,7 @@ use Rattle.hm_mem.specs.declared.Access.TheVariants.{Scalar}
 use Rattle.hm_regs.specs.Place.{Counted}
 use Rattle.hm_regs.specs.declared.Regs.{Regs}
 use Rattle.hm_run.specs.declared.Cause.TheVariants as cause
-use Rattle.hm_run.specs.Program.{answered, breakpoint, by_machine, cause_of, caused, most_output, printed, served}
+use Rattle.hm_run.specs.Program.{answered, breakpoint, doing_in_machine, cause_of, caused, most_output, printed, served}
 use Rattle.hm_state.proofs.Registers.{registers_are}
 use Rattle.hm_state.specs.State.{State, regs_of, state_of}
 use Rattle.hm_order.specs.Beats.{then}
@@ -122,7 +122,7 @@ seen_there r m output = refl
 -- what is asked, from the registers and the memory that make a state
 pub asked_there : (r : Regs) (m : Memory) (output : List ℕ) → Counted r → r.fpscr < 2 ^ 32 → r.vpr < 2 ^ 32
     → (q : Result Asked Stop) → q ≡ asked (runner.in_machine m.around) r (seen m)
-    → then (caused q) (answered cause_of (state_of r m output)) ≡ served (by_machine m.around) (state_of r m output)
+    → then (caused q) (answered cause_of (state_of r m output)) ≡ served (doing_in_machine m.around) (state_of r m output)
 asked_there r m output n f v q e =
     let s = state_of r m output in
     let from = λ (t : Regs) (y : Seen). then (caused (asked (runner.in_machine m.around) t y)) (answered cause_of s) in
@@ -130,5 +130,5 @@ asked_there r m output n f v q e =
     ∙ ap (λ (t : Regs). from t (seen m)) (sym (registers_are r m output n f v))
     ∙ ap (λ (y : Seen). from (regs_of s) y) (sym (seen_there r m output))
 
-pub serves : (around : Around) (k : ℕ) (s : State) → k ≡ 171 → served (by_machine around) s ≡ breakpoint (by_machine around) k s
-serves around k s e = ap (λ (n : ℕ). breakpoint (by_machine around) n s) (sym e)
+pub serves : (around : Around) (k : ℕ) (s : State) → k ≡ 171 → served (doing_in_machine around) s ≡ breakpoint (doing_in_machine around) k s
+serves around k s e = ap (λ (n : ℕ). breakpoint (doing_in_machine around) n s) (sym e)

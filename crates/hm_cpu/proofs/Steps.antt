@@ -28,7 +28,7 @@ use Rattle.hm_rows.specs.Rows.{refuse, vector_tree}
 use Rattle.hm_run.proofs.Steps.{break_makes, makes_other, makes_row, no_row, older_vector, older_other, other_is, past}
 use Rattle.hm_run.specs.declared.Cause.{Cause}
 use Rattle.hm_run.specs.declared.Cause.TheVariants as cause
-use Rattle.hm_run.specs.Program.{Program, breakpoint, by_machine, caused, core, done_as, in_machine, made_here, makes_here}
+use Rattle.hm_run.specs.Program.{Program, breakpoint, doing_in_machine, caused, core, done_as, with_cause, made_here, makes_here}
 use Rattle.hm_run.specs.Program.{other_here, other_row, rows, unless_refused, vector_of}
 use Rattle.hm_run.specs.Stops.{at_break, break_of}
 use Rattle.hm_state.proofs.Beside.{pc_is}
@@ -45,10 +45,10 @@ context_made old new m output e = ap (λ (r : Regs). state_of r m output) e ∙ 
 
 -- what comes before a beat
 pub begins_first : (listing : Listing) (around : Around) (v : Vector) (done : ℕ) (s t : State) (o : Option Fault)
-    → done ≡ 0 → t ≡ with_context s → refuse v t ≡ o → in_machine (unless_refused o t) ≡ begin (core listing around) v done s
+    → done ≡ 0 → t ≡ with_context s → refuse v t ≡ o → with_cause (unless_refused o t) ≡ begin (core listing around) v done s
 begins_first listing around v done s t o first made e =
-    ap (λ (q : Option Fault). in_machine (unless_refused q t)) (sym e)
-    ∙ ap (λ (u : State). in_machine (unless_refused (refuse v u) u)) made
+    ap (λ (q : Option Fault). with_cause (unless_refused q t)) (sym e)
+    ∙ ap (λ (u : State). with_cause (unless_refused (refuse v u) u)) made
     ∙ ap (λ (k : ℕ). begin (core listing around) v k s) (sym first)
 
 pub begins_later : (listing : Listing) (around : Around) (v : Vector) (done : ℕ) (s : State) → 0 < done → Ok s ≡ begin (core listing around) v done s
@@ -178,7 +178,7 @@ module _ (listing : Listing) (x : Cpu) where
     row_none = ap vector_of here ∙ no_row i other
 
     -- what a step of it comes to
-    other_comes : (r : Result State Cause) → other_row (by_machine (memory_of x.mem).around) i (state_in x) ≡ r
+    other_comes : (r : Result State Cause) → other_row (doing_in_machine (memory_of x.mem).around) i (state_in x) ≡ r
         → older M (config_of x) ≡ done M (config_of x) r (past (config_of x))
     unfolding state_of
     other_comes r e =
@@ -191,24 +191,24 @@ module _ (listing : Listing) (x : Cpu) where
 
     -- a breakpoint, and any other
     pub by_break : (k : ℕ) → Some k ≡ break_of i
-        → other_row (by_machine (memory_of x.mem).around) i (state_in x) ≡ breakpoint (by_machine (memory_of x.mem).around) k (state_in x)
-    by_break k is = ap (λ (o : Option ℕ). at_break (λ k. breakpoint (by_machine (memory_of x.mem).around) k (state_in x)) o
+        → other_row (doing_in_machine (memory_of x.mem).around) i (state_in x) ≡ breakpoint (doing_in_machine (memory_of x.mem).around) k (state_in x)
+    by_break k is = ap (λ (o : Option ℕ). at_break (λ k. breakpoint (doing_in_machine (memory_of x.mem).around) k (state_in x)) o
         (done_as cause.Stop (scalar_in_machine (memory_of x.mem).around i (state_in x)))) (sym is)
 
     pub by_none : None ≡ break_of i
-        → other_row (by_machine (memory_of x.mem).around) i (state_in x) ≡ done_as cause.Stop (scalar_in_machine (memory_of x.mem).around i (state_in x))
-    by_none is = ap (λ (o : Option ℕ). at_break (λ k. breakpoint (by_machine (memory_of x.mem).around) k (state_in x)) o
+        → other_row (doing_in_machine (memory_of x.mem).around) i (state_in x) ≡ done_as cause.Stop (scalar_in_machine (memory_of x.mem).around i (state_in x))
+    by_none is = ap (λ (o : Option ℕ). at_break (λ k. breakpoint (doing_in_machine (memory_of x.mem).around) k (state_in x)) o
         (done_as cause.Stop (scalar_in_machine (memory_of x.mem).around i (state_in x)))) (sym is)
 
     -- one that is done
-    pub other_done : (t : State) → other_row (by_machine (memory_of x.mem).around) i (state_in x) ≡ Ok t
+    pub other_done : (t : State) → other_row (doing_in_machine (memory_of x.mem).around) i (state_in x) ≡ Ok t
         → Ok (record { a = 0; b = 0; n = x.retired + 1; steps = x.older_steps + 1; state = t }) ≡ older M (config_of x)
     unfolding state_of
     other_done t going =
         (λ j. Ok (record { a = 0; b = 0; n = add-one x.retired j; steps = add-one x.older_steps j; state = t })) ∙ sym (other_comes (Ok t) going)
 
     -- a breakpoint that stops: it makes no context
-    pub break_stops : (k : ℕ) (e : Cause) → Some k ≡ break_of i → Err e ≡ breakpoint (by_machine (memory_of x.mem).around) k (state_in x)
+    pub break_stops : (k : ℕ) (e : Cause) → Some k ≡ break_of i → Err e ≡ breakpoint (doing_in_machine (memory_of x.mem).around) k (state_in x)
         → Err (order.Stopped (config_of x) e) ≡ older M (config_of x)
     unfolding state_of
     break_stops k e is stop =

@@ -14,7 +14,7 @@ ghost use Rattle.hm_exc.specs.declared.types.Activation.{Activation};
 ghost use Rattle.hm_exec.specs.Families.{row_of};
 ghost use Rattle.hm_handlers.specs.Nested.{flows, letter, step, to_end};
 ghost use Rattle.hm_mem.specs.Memory.{memory_of, flash_at};
-ghost use Rattle.hm_order.specs.Turns.{Older, Younger};
+ghost use Rattle.hm_order.specs.InFlight.{Older, Younger};
 ghost use Rattle.hm_run.specs.Program.{most_output};
 ghost use Rattle.hm_sched.specs.Schedule.{Sched};
 ghost use Rattle.hm_state.specs.State.{State};

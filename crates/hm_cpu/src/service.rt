@@ -9,7 +9,7 @@ ghost use Rattle.hm_mem.specs.Memory.{memory_of};
 ghost use Rattle.hm_mem.specs.Seen.{read, seen, stop_of};
 ghost use Rattle.hm_base.specs.Results.{unless};
 ghost use Rattle.hm_mem.specs.declared.Access.TheVariants.{Scalar};
-ghost use Rattle.hm_run.specs.Program.{answered, breakpoint, by_machine, cause_of, most_output};
+ghost use Rattle.hm_run.specs.Program.{answered, breakpoint, doing_in_machine, cause_of, most_output};
 ghost use Rattle.hm_thumb.specs.Calls.{Writes, asked, most_text, text, writes};
 ghost use Rattle.hm_thumb.specs.Does.{in_machine, words};
 
@@ -166,7 +166,7 @@ fn answer(q: Request, x: &mut Cpu) -> Result<(), Cause>
 #[inline(never)]
 pub fn breakpoint(k: u8, x: &mut Cpu) -> Result<(), Cause>
     requires room { vec_capacity x.old.output ≡ most_output }
-    ensures value { executed result (state_in x.new) ≡ breakpoint (by_machine (memory_of x.old.mem).around) k (state_in x.old) }
+    ensures value { executed result (state_in x.new) ≡ breakpoint (doing_in_machine (memory_of x.old.mem).around) k (state_in x.old) }
     ensures stays { OnErr result (x.new ≡ x.old) }
     ensures kept { IsServed x.old x.new }
 {

@@ -23,7 +23,7 @@ use Rattle.hm_isa.specs.declared.Instr.TheVariants as instr
 use Rattle.hm_isa.specs.declared.Vector.{Vector}
 use Rattle.hm_order.specs.Beats.{then}
 use Rattle.hm_order.specs.Machine.{Broken, Config, End, Stopped, begin as begin_row, begun, did, done, fault_end, older, older_of, settle, younger, younger_of}
-use Rattle.hm_order.specs.Turns.{Which, Older, Younger, turn}
+use Rattle.hm_order.specs.InFlight.{InFlight, Older, Younger, step_in_flight}
 use Rattle.hm_rows.proofs.Context.{context_fresh, fresh}
 use Rattle.hm_rows.specs.Context.{with_context}
 use Rattle.hm_run.specs.declared.Cause.{Cause}
@@ -101,9 +101,9 @@ module _ (listing : Listing) (s : Sched) (acts : List Interrupted) where
   younger_tells c None (Some j) h = did_tells c ((M.rows.act j c.b).run c.state) h
   younger_tells c None None h = tt
 
-  turn_tells : (t : Which) (c : Config State) → Tells c.state acts → ConfigTells acts (turn M t c)
-  turn_tells Older c h = older_tells c (M.code (M.rows.view.pc c.state)) h
-  turn_tells Younger c h =
+  in_flight_tells : (t : InFlight) (c : Config State) → Tells c.state acts → ConfigTells acts (step_in_flight M t c)
+  in_flight_tells Older c h = older_tells c (M.code (M.rows.view.pc c.state)) h
+  in_flight_tells Younger c h =
       younger_tells c (M.rule (M.code (M.rows.view.pc c.state)) (M.code (M.rows.view.pc c.state + 4)) c) (M.code (M.rows.view.pc c.state + 4)) h
 
   with_tells : (r : Result (Config State) (End State Cause Rule)) → ConfigTells acts r → StepTells (with_acts acts r)
@@ -141,25 +141,25 @@ module _ (listing : Listing) (s : Sched) where
       let around = around_under s (x ∷ acts) in
       went_tells c x acts (scalar_in_machine around (instr.Branch i) c.state) h (scalar_leaves around (instr.Branch i) c.state)
   handles_tells (Ok (instr.Vector v)) c x acts h =
-      uncounted_tells listing s (x ∷ acts) c (older (program_under listing s (x ∷ acts)) c) (turn_tells listing s (x ∷ acts) Older c h)
+      uncounted_tells listing s (x ∷ acts) c (older (program_under listing s (x ∷ acts)) c) (in_flight_tells listing s (x ∷ acts) Older c h)
   handles_tells (Err f) c x acts h =
-      uncounted_tells listing s (x ∷ acts) c (older (program_under listing s (x ∷ acts)) c) (turn_tells listing s (x ∷ acts) Older c h)
+      uncounted_tells listing s (x ∷ acts) c (older (program_under listing s (x ∷ acts)) c) (in_flight_tells listing s (x ∷ acts) Older c h)
 
-  handler_tells : (t : Which) (c : Config State) (x : Interrupted) (acts : List Interrupted) → Tells c.state (x ∷ acts)
+  handler_tells : (t : InFlight) (c : Config State) (x : Interrupted) (acts : List Interrupted) → Tells c.state (x ∷ acts)
       → StepTells (handler_step listing s t c x acts)
   handler_tells Older c x acts h = handles_tells (listing c.state.pc) c x acts h
   handler_tells Younger c x acts h =
-      uncounted_tells listing s (x ∷ acts) c (younger (program_under listing s (x ∷ acts)) c) (turn_tells listing s (x ∷ acts) Younger c h)
+      uncounted_tells listing s (x ∷ acts) c (younger (program_under listing s (x ∷ acts)) c) (in_flight_tells listing s (x ∷ acts) Younger c h)
 
-  under_tells : (t : Which) (c : Config State) (acts : List Interrupted) → Tells c.state acts → StepTells (step_under listing s t c acts)
-  under_tells t c [] h = with_tells listing s [] (turn (program_under listing s []) t c) (turn_tells listing s [] t c h)
+  under_tells : (t : InFlight) (c : Config State) (acts : List Interrupted) → Tells c.state acts → StepTells (step_under listing s t c acts)
+  under_tells t c [] h = with_tells listing s [] (step_in_flight (program_under listing s []) t c) (in_flight_tells listing s [] t c h)
   under_tells t c (x ∷ acts) h = handler_tells t c x acts h
 
   -- LETTERS: what goes on is sound, and what does not tells it
   abbrev Steps : NestedStep → Type 0
   Steps r = IfOk r (IsSound s) × StepTells r
 
-  one_step : (t : Which) (x : Nested) → IsSound s x → Steps (step listing s t x)
+  one_step : (t : InFlight) (x : Nested) → IsSound s x → Steps (step listing s t x)
   one_step t x h = (step_sound s listing t x h, under_tells t x.config x.acts (h.number, h.stacked))
 
   then_steps : (r : NestedStep) (f : Nested → NestedStep) → Steps r → ((y : Nested) → IsSound s y → Steps (f y)) → Steps (then r f)

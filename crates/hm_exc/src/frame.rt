@@ -3,7 +3,6 @@
 ghost use Rattle.std.specs.Prelude.{ℕ, ◌≡◌, ◌+◌, ◌-◌, ◌*◌, ◌/◌, ◌%◌, ◌^◌, ◌<◌, ◌≤◌, ◌==◌, false, IsTrue, length, slice_index, if◌then◌else◌};
 ghost use Rattle.hm_exc.specs.Entry.{CanEnter, FitsEntry, activation, main_after, process_after, return_value, window_in};
 ghost use Rattle.hm_exc.specs.Frame.{flags, frame_base, frame_bytes, frame_size, frame_words, is_between, progress, psr_window, xpsr};
-ghost use Rattle.hm_state.specs.State.{bit};
 ghost use Rattle.hm_mem.specs.Seen.{lies_in_sram};
 ghost use Rattle.hm_window.specs.Positions.{may_end};
 
@@ -12,19 +11,16 @@ use hm_base::bits;
 use hm_regs::Regs;
 use hm_window::{Window, eci, window};
 
-/// 1 for true, 0 for false.
-pub fn bit(b: bool) -> u32
-    ensures value { result ≡ bit b }
-{
-    if b { 1 } else { 0 }
-}
-
 /// The flags N, Z, C, V and Q as a number of five bits.
 fn flags(r: &Regs) -> u32
     ensures value { result ≡ flags r.now }
     ensures below { result < 32 }
 {
-    16 * bit(r.n) + 8 * bit(r.z) + 4 * bit(r.c) + 2 * bit(r.v) + bit(r.q)
+    16 * u32::from(r.n)
+        + 8 * u32::from(r.z)
+        + 4 * u32::from(r.c)
+        + 2 * u32::from(r.v)
+        + u32::from(r.q)
 }
 
 /// Whether no beat is done.

@@ -3,12 +3,11 @@
 ghost use Rattle.std.specs.Prelude.{ℕ, ◌≡◌, ◌+◌, ◌-◌, ◌*◌, ◌<◌, ◌≤◌, IsTrue, None, slice_index};
 ghost use Rattle.hm_exc.specs.Entry.{main_after, process_after};
 ghost use Rattle.hm_exc.specs.Frame.{frame_size};
-ghost use Rattle.hm_state.specs.State.{bit};
 ghost use Rattle.hm_exc.specs.Return.{Unbroken, core_rule, differing, first_from, frame_rule, mask_rule, return_rule, stack_rule, vector_rule};
 ghost use Rattle.hm_mem.specs.Memory.{byte_at, memory_of};
 ghost use Rattle.hm_mem.specs.Seen.{lies_in_sram};
 
-use crate::frame::{bit, frame_size, main_after, process_after};
+use crate::frame::{frame_size, main_after, process_after};
 use crate::memory::byte;
 use crate::types::{Activation, Broken, Slot};
 use hm_base::Place;
@@ -88,7 +87,11 @@ fn mask_difference(r: &Regs, x: &Activation) -> Option<Broken>
     ensures value { result ≡ mask_rule r.now x.now }
     ensures same { result ≡ None → (r.now.primask ≡ x.now.regs.primask) × (r.now.basepri ≡ x.now.regs.basepri) }
 {
-    if let Some(difference) = differing(Slot::Primask, bit(x.regs.primask), bit(r.primask)) {
+    if let Some(difference) = differing(
+        Slot::Primask,
+        u32::from(x.regs.primask),
+        u32::from(r.primask),
+    ) {
         return Some(difference);
     }
     differing(Slot::Basepri, x.regs.basepri as u32, r.basepri as u32)

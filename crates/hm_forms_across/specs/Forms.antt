@@ -9,7 +9,7 @@ use Rattle.hm_lane.specs.declared.lanes.Size.TheVariants.{Word}
 use Rattle.hm_lane.specs.Lanes.{bytes_of, firsts, lanes, modulus}
 use Rattle.hm_beat.specs.Rows.{word_place}
 use Rattle.hm_kinds.specs.Row.{Row}
-use Rattle.hm_lane_fns.specs.LaneFns.{cut, extended_long, lane_value}
+use Rattle.hm_lane_fns.specs.LaneFns.{cut, extended_lane, lane_product, lane_value}
 use Rattle.hm_lane_fns.specs.Words.{size_of}
 use Rattle.hm_forms_across.specs.declared.long_sums.LongSums.{LongSums}
 use Rattle.hm_forms_across.specs.declared.sums.Sums.{Sums}
@@ -23,7 +23,7 @@ added m f _ _ _ sum = sum
 
 -- V22: what a pair of elements adds, modulo 2^64: their product for VMLADAV and VMLALDAV, the second one for VADDV and VADDLV
 abbrev pub term : Terms → ℕ → ℕ → ℕ
-term t x y = cond t.products (extended_long t.unsigned t.z x * extended_long t.unsigned t.z y % 2 ^ 64) (extended_long t.unsigned t.z y)
+term t x y = cond t.products (lane_product t.unsigned t.z x y) (extended_lane t.unsigned t.z y)
 
 -- V22: the sum of VADDV or VMLADAV after beat b; one that does not go on from the register begins at 0 on the first beat
 abbrev pub sum_next : Sums → ℕ → List Bool → List ℕ → ℕ

@@ -6,14 +6,16 @@ ghost use Rattle.hm_lane.specs.Lanes.{bytes_of, firsts, lanes, modulus};
 ghost use Rattle.hm_forms_across.specs.Forms.{added, term};
 
 use hm_lane::{Size, bytes};
-use hm_lane_fns::extended_long;
+use hm_lane_fns::{extended_lane, lane_product};
 
 /// What of two vectors is added.
 #[derive(Clone, Copy)]
 pub struct Terms {
     /// Whether products are added, or else the elements of the second vector.
     pub products: bool,
+    /// Whether the elements are taken without a sign.
     pub unsigned: bool,
+    /// The size of the elements.
     pub z: Size,
 }
 
@@ -23,11 +25,10 @@ fn term(terms: Terms, x: u32, y: u32) -> u64
     requires second { y < modulus terms.z }
     ensures { result ≡ term terms x y }
 {
-    let b = extended_long(terms.unsigned, terms.z, y);
     if terms.products {
-        extended_long(terms.unsigned, terms.z, x).wrapping_mul(b)
+        lane_product(terms.unsigned, terms.z, x, y)
     } else {
-        b
+        extended_lane(terms.unsigned, terms.z, y)
     }
 }
 

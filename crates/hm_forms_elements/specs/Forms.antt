@@ -29,7 +29,7 @@ use Rattle.hm_lane.specs.Lanes.{bytes_of, lanes, merged, paired, per_word, unlan
 use Rattle.hm_lane.specs.Predicate.{first}
 use Rattle.hm_beat.specs.Rows.{word_place}
 use Rattle.hm_kinds.specs.Row.{Out, Row}
-use Rattle.hm_lane_fns.specs.LaneFns.{clamped, cut, extended_long, halved, is_outside, lane_of, lane_saturates, lane_value, saturates}
+use Rattle.hm_lane_fns.specs.LaneFns.{clamped, cut, extended_lane, halved, is_outside, lane_of, lane_product, lane_saturates, lane_value, saturates}
 use Rattle.hm_lane_fns.specs.Words.{any_both, lane_tests3, lanewise3, operand_of, operand_places, size_of, truths}
 use Rattle.hm_forms_elements.specs.declared.lanes.Lanes.{Lanes}
 use Rattle.hm_forms_elements.specs.declared.widening.Widening.{Widening}
@@ -294,10 +294,7 @@ wide_at r b = cond (nat_eq r.z.value 2) (2 * (b / 2) + r.t.value) b
 
 -- the product of two lanes
 abbrev pub product : V6 → ℕ → ℕ → ℕ
-product r x y =
-    let z = size_of r.z.value in
-    let u = nat_eq r.u.value 1 in
-    extended_long u z x * extended_long u z y % 2 ^ 64
+product r x y = lane_product (nat_eq r.u.value 1) (size_of r.z.value) x y
 
 -- those with even numbers, or those with odd ones
 abbrev pub every_second : Bool → List ℕ → List ℕ
@@ -402,7 +399,7 @@ reversed_row r = words_row false r.d.value (λ b. word_place r.m.value (reversed
 -- LANES MADE LONGER
 -- extended and shifted, which is times a factor
 abbrev pub widened : Widening → Size → ℕ → ℕ
-widened r z x = extended_long r.unsigned z x * r.factor % 2 ^ 64
+widened r z x = extended_lane r.unsigned z x * r.factor % 2 ^ 64
 
 -- V12: the even or the odd lanes of a word made longer, in lanes of twice their size
 abbrev pub long_lanes : Widening → Size → Size → ℕ → ℕ

@@ -18,7 +18,7 @@ use hm_beat::Touch;
 use hm_isa::{QRegister, V6};
 use hm_kinds::{Shape, Written, finish_row, read, touch_row};
 use hm_lane::{Size, bytes};
-use hm_lane_fns::{extended_long, merge_active, size, word_place};
+use hm_lane_fns::{lane_product, merge_active, size, word_place};
 use hm_regs::Regs;
 
 /// The product of two lanes.
@@ -27,9 +27,7 @@ fn product(row: &V6, x: u32, y: u32) -> u64
     requires second { y < modulus (size_of row.now.z.value) }
     ensures { result ≡ product row.now x y }
 {
-    let z = size(&row.z);
-    let unsigned = row.u.get() == 1;
-    extended_long(unsigned, z, x).wrapping_mul(extended_long(unsigned, z, y))
+    lane_product(row.u.get() == 1, size(&row.z), x, y)
 }
 
 /// One of two.

@@ -16,7 +16,7 @@ use hm_beat::Touch;
 use hm_isa::QRegister;
 use hm_kinds::{Shape, Written, finish_row, read, touch_row};
 use hm_lane::{Size, bytes};
-use hm_lane_fns::{extended_long, merge_active, word_place};
+use hm_lane_fns::{extended_lane, merge_active, word_place};
 use hm_regs::Regs;
 
 /// Elements made longer and shifted.
@@ -40,7 +40,7 @@ fn widened(row: &Widening, z: Size, x: u32) -> u64
     requires { x < modulus z }
     ensures { result ≡ widened row.now z x }
 {
-    extended_long(row.unsigned, z, x).wrapping_mul(row.factor as u64)
+    extended_lane(row.unsigned, z, x).wrapping_mul(row.factor as u64)
 }
 
 /// Bytes made halves.

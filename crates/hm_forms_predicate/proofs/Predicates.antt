@@ -12,17 +12,17 @@ use Rattle.hm_lane.specs.Predicate.{mask_place}
 use Rattle.hm_state.specs.Store.{put_all}
 use Rattle.hm_state.specs.State.{Cell, State, Value, at, cells, into}
 use Rattle.hm_beat.specs.Rows.{active_at, predicate_at, register_at, retired, word_place}
-use Rattle.hm_kinds.specs.Row.{mask_writes, row_by_words, slice_at, turned, values_at}
+use Rattle.hm_kinds.specs.Row.{mask_writes, row_by_words, slice_at, inverted_by, values_at}
 use Rattle.hm_lane_fns.specs.Words.{bit_of, both, filled, nibble, operand_places, truths}
 use Rattle.hm_forms_predicate.specs.declared.compare.Comparison.{Comparison}
 use Rattle.hm_forms_predicate.specs.Forms.{block_mask, compare_row, compare_slice, compares, count_row, count_slice, counted, invert_row, negated, slice_row}
-use Rattle.hm_forms_predicate.specs.Predicates.{compare_result, count_result, invert_result, mask_after, predicate_whole, turned_half}
+use Rattle.hm_forms_predicate.specs.Predicates.{compare_result, count_result, invert_result, mask_after, predicate_whole, inverted_half}
 use Rattle.hm_lane_fns.proofs.Lanewise.{four, operand_at, operand_four, operand_is, quad}
 
 -- FOUR SLICES
 -- word b gets a slice, which is inverted where the mask of its half is greater than 8; after each half its mask gets a new one, or shifts
 abbrev slice_ends : ℕ → ℕ → Option ℕ → State → List (Cell × Value)
-slice_ends b x new s = into (write (P0 b) (turned (at (mask_place b) s) x)) ∷ map into (mask_writes b (at (mask_place b) s) new)
+slice_ends b x new s = into (write (P0 b) (inverted_by (at (mask_place b) s) x)) ∷ map into (mask_writes b (at (mask_place b) s) new)
 
 abbrev slices_whole : (ℕ → ℕ) → Option ℕ → State → State
 slices_whole x new s = retired (put_all cells (slice_ends 0 (x 0) new s ++ slice_ends 1 (x 1) new s ++ slice_ends 2 (x 2) new s ++ slice_ends 3 (x 3) new s) s)
@@ -36,16 +36,16 @@ slices w reads f new s = refl
 one_bit : (p : Bool) → bit_of (not p) + bit_of p ≡ 1
 one_bit p = grind arith
 
-pub turned_low : (mask : ℕ) (p q r t : Bool) (l : List Bool) → turned mask (nibble (p ∷ q ∷ r ∷ t ∷ [])) ≡ nibble (turned_half mask (p ∷ q ∷ r ∷ t ∷ l))
-turned_low mask p q r t l = go (ltb 8 mask)
+pub inverted_low : (mask : ℕ) (p q r t : Bool) (l : List Bool) → inverted_by mask (nibble (p ∷ q ∷ r ∷ t ∷ [])) ≡ nibble (inverted_half mask (p ∷ q ∷ r ∷ t ∷ l))
+inverted_low mask p q r t l = go (ltb 8 mask)
   where
     go : (x : Bool) → (let n = nibble (p ∷ q ∷ r ∷ t ∷ []) in cond x (15 - n) n ≡ nibble (cond x (negated (p ∷ q ∷ r ∷ t ∷ l)) (p ∷ q ∷ r ∷ t ∷ l)))
     go true = omega (arith, one_bit p, one_bit q, one_bit r, one_bit t)
     go false = refl
 
-pub turned_high : (mask : ℕ) (a b c d p q r t : Bool)
-    → turned mask (nibble (p ∷ q ∷ r ∷ t ∷ [])) ≡ nibble (drop 4 (turned_half mask (a ∷ b ∷ c ∷ d ∷ p ∷ q ∷ r ∷ t ∷ [])))
-turned_high mask a b c d p q r t = go (ltb 8 mask)
+pub inverted_high : (mask : ℕ) (a b c d p q r t : Bool)
+    → inverted_by mask (nibble (p ∷ q ∷ r ∷ t ∷ [])) ≡ nibble (drop 4 (inverted_half mask (a ∷ b ∷ c ∷ d ∷ p ∷ q ∷ r ∷ t ∷ [])))
+inverted_high mask a b c d p q r t = go (ltb 8 mask)
   where
     go : (x : Bool) → (let n = nibble (p ∷ q ∷ r ∷ t ∷ []) in
         cond x (15 - n) n ≡ nibble (drop 4 (cond x (negated (a ∷ b ∷ c ∷ d ∷ p ∷ q ∷ r ∷ t ∷ [])) (a ∷ b ∷ c ∷ d ∷ p ∷ q ∷ r ∷ t ∷ []))))
@@ -72,15 +72,15 @@ by_halves p new s =
     let m = at Mask01 s in
     let n = at Mask23 s in
     let W : ℕ → ℕ → Cell × Value = λ b x. into (write (P0 b) x) in
-    let x : ℕ → ℕ → ℕ = λ k b. turned k (nibble (quad p b)) in
+    let x : ℕ → ℕ → ℕ = λ k b. inverted_by k (nibble (quad p b)) in
     (λ j. retired (put_all cells ((W 0 (x m 0) ∷ (early new s).0 j) ++ (W 1 (x m 1) ∷ (late new s).0 j) ++ (W 2 (x n 2) ∷ (early new s).1 j)
     ++ (W 3 (x n 3) ∷ (late new s).1 j)) s))
     ∙ ap (λ ws. retired (put_all cells (W 0 (x m 0) ∷ W 1 (x m 1) ∷ ws) s))
     (append_assoc (mask_after Mask01 m new) (W 2 (x n 2) ∷ []) (W 3 (x n 3) ∷ mask_after Mask23 n new))
     ∙ (λ j. retired (put_all cells
-    ((W 0 (turned_low m (p 0 0) (p 0 1) (p 0 2) (p 0 3) (quad p 1) j)
-    ∷ W 1 (turned_high m (p 0 0) (p 0 1) (p 0 2) (p 0 3) (p 1 0) (p 1 1) (p 1 2) (p 1 3) j) ∷ mask_after Mask01 m new)
-    ++ (W 2 (turned_low n (p 2 0) (p 2 1) (p 2 2) (p 2 3) (quad p 3) j) ∷ W 3 (turned_high n (p 2 0) (p 2 1) (p 2 2) (p 2 3) (p 3 0) (p 3 1) (p 3 2) (p 3 3) j)
+    ((W 0 (inverted_low m (p 0 0) (p 0 1) (p 0 2) (p 0 3) (quad p 1) j)
+    ∷ W 1 (inverted_high m (p 0 0) (p 0 1) (p 0 2) (p 0 3) (p 1 0) (p 1 1) (p 1 2) (p 1 3) j) ∷ mask_after Mask01 m new)
+    ++ (W 2 (inverted_low n (p 2 0) (p 2 1) (p 2 2) (p 2 3) (quad p 3) j) ∷ W 3 (inverted_high n (p 2 0) (p 2 1) (p 2 2) (p 2 3) (p 3 0) (p 3 1) (p 3 2) (p 3 3) j)
     ∷ mask_after Mask23 n new)) s))
 
 -- COMPARISONS

@@ -15,8 +15,8 @@ use Rattle.hm_forms_predicate.specs.Forms.{compares, negated}
 use Rattle.hm_lane_fns.specs.Registers.{elements, operand_register}
 
 -- the truth values of a half, inverted where its mask is greater than 8
-abbrev pub turned_half : ℕ → List Bool → List Bool
-turned_half mask l = cond (ltb 8 mask) (negated l) l
+abbrev pub inverted_half : ℕ → List Bool → List Bool
+inverted_half mask l = cond (ltb 8 mask) (negated l) l
 
 -- a mask shifts, or gets a new one
 abbrev pub mask_after : Place → ℕ → Option ℕ → List (Cell × Value)
@@ -27,8 +27,8 @@ mask_after p mask (Some k) = into (write p k) ∷ []
 abbrev pub half_writes : ℕ → List Bool → Option ℕ → State → List (Cell × Value)
 half_writes b l new s =
     let mask = at (mask_place b) s in
-    let turned = turned_half mask l in
-    into (write (P0 b) (nibble turned)) ∷ into (write (P0 (b + 1)) (nibble (drop 4 turned))) ∷ mask_after (mask_place b) mask new
+    let inverted = inverted_half mask l in
+    into (write (P0 b) (nibble inverted)) ∷ into (write (P0 (b + 1)) (nibble (drop 4 inverted))) ∷ mask_after (mask_place b) mask new
 
 -- P0 gets 16 truth values
 abbrev pub predicate_whole : List Bool → Option ℕ → State → State

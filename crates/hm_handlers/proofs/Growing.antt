@@ -10,13 +10,14 @@ use Rattle.hm_mem.specs.Seen.{Seen, after_load, after_store, covers, fault_kind,
 use Rattle.hm_mem.specs.Seen.{stop_of}
 use Rattle.hm_base.specs.Results.{unless}
 use Rattle.hm_mem.specs.declared.Access.{Access}
-use Rattle.hm_mem.proofs.Stops.{kept_none, none_left}
+use Rattle.hm_mem.proofs.Stops.{kept_none, neither_stops}
 use Rattle.hm_order.proofs.Results.{decide, ok_err, ok_same, true_not_false}
 use Rattle.hm_state.specs.State.{State, Byte, regs_of}
 use Rattle.hm_regs.specs.declared.Regs.{Regs}
 use Rattle.hm_thumb.specs.Does.{Does, Ends, Faults, Loads, Stores, Done, after_loads, after_stores, behind, first_stop, in_machine, run, words}
 use Rattle.hm_thumb.specs.Laws.{under_handler}
-use Rattle.hm_thumb.specs.Rows.{in_block, width}
+use Rattle.hm_isa.specs.Code.{width_of}
+use Rattle.hm_thumb.specs.Rows.{in_block}
 use Rattle.hm_thumb.specs.Steps.{Stepped, finish, step}
 use Rattle.hm_whole.specs.Whole.{Went, goes_from, scalar_in_machine, seen_in, state_with}
 use Rattle.hm_handlers.specs.Blocks.{EndsKeep}
@@ -145,7 +146,7 @@ module _ (x : Around) (P : ℕ → Type 0)
       → SeenGrows P s (after_stores (marks x.actor) len a xs s)
   stores_grow how len a [] s t is h = seen_none P s
   stores_grow how len a (v ∷ vs) s t is h =
-      let both = none_left (stop_of x how true len a t) (first_stop (in_machine x) how true len (length vs) (behind len a) t) h in
+      let both = neither_stops (stop_of x how true len a t) (first_stop (in_machine x) how true len (length vs) (behind len a) t) h in
       let one = after_store (marks x.actor) len a v s in
       seen_then P s one (after_stores (marks x.actor) len (behind len a) vs one) (store how len a v s is (blind how len a s t both.0))
       (stores_grow how len (behind len a) vs (after_store (marks x.actor) len a v s) t is both.1)
@@ -185,7 +186,7 @@ module _ (x : Around) (P : ℕ → Type 0)
   pub scalar_grows : (i : Instr) (s : State) (y : Went) → scalar_in_machine x i s ≡ Ok y → Grows P s y.state
   scalar_grows i s y e =
       goes_grows s (step (in_machine x) i (regs_of s) (seen_in s))
-      (λ z f. finish_grows (width i) (seen_in s) (run (in_machine x) (in_block i (regs_of s)) (seen_in s))
+      (λ z f. finish_grows (width_of i) (seen_in s) (run (in_machine x) (in_block i (regs_of s)) (seen_in s))
       (run_grows (regs_of s) (in_block i (regs_of s)) (block-keep i (regs_of s)) (seen_in s)) z f) y e
 
 pub handler_scalar : (frame : ℕ) (bounds : Bounds) (i : Instr) (s : State) (y : Went) → scalar_in_machine (under_handler frame bounds) i s ≡ Ok y

@@ -14,7 +14,7 @@ use Rattle.hm_run.proofs.Steps.{past}
 use Rattle.hm_run.specs.declared.Cause.{Cause}
 use Rattle.hm_run.specs.declared.Cause.TheVariants as cause
 use Rattle.hm_run.specs.declared.Reason.TheVariants.{Break}
-use Rattle.hm_run.specs.Program.{Program, answered, asks, breakpoint, by_machine, cause_of, caused, core, done_as, makes_here}
+use Rattle.hm_run.specs.Program.{Program, answered, asks, breakpoint, doing_in_machine, cause_of, caused, core, done_as, makes_here}
 use Rattle.hm_run.specs.Program.{other_here, printed, rows, served, vector_of}
 use Rattle.hm_run.specs.Stops.{at_break, break_of}
 use Rattle.hm_rows.proofs.Context.{context_bytes}
@@ -128,15 +128,15 @@ module _ (bounds : Bounds) where
   abbrev around : Around
   around = thread_under bounds
 
-  served_grows : (s t : State) → served (by_machine around) s ≡ Ok t → Grows Nothing s t
+  served_grows : (s t : State) → served (doing_in_machine around) s ≡ Ok t → Grows Nothing s t
   served_grows s t e =
       let one = then_ok (caused (asked (runner.in_machine around) (regs_of s) (seen_in s))) (answered cause_of s) t e in
       answered_grows s t one.0 one.2
 
-  broken_grows : (k : ℕ) (s t : State) → breakpoint (by_machine around) k s ≡ Ok t → Grows Nothing s t
+  broken_grows : (k : ℕ) (s t : State) → breakpoint (doing_in_machine around) k s ≡ Ok t → Grows Nothing s t
   broken_grows k s t e = by_call (asks k) e
     where
-      by_call : (b : Bool) → cond b (served (by_machine around) s) (Err (cause.Halt (Break k))) ≡ Ok t → Grows Nothing s t
+      by_call : (b : Bool) → cond b (served (doing_in_machine around) s) (Err (cause.Halt (Break k))) ≡ Ok t → Grows Nothing s t
       by_call true h = served_grows s t h
       by_call false h = absurd (ok_err (sym h))
 
@@ -145,7 +145,7 @@ module _ (bounds : Bounds) where
   went_grows i s t (Err f) e h = absurd (ok_err (sym h))
 
   by_break : (i : Instr) (s t : State) (o : Option ℕ)
-      → at_break (λ k. breakpoint (by_machine around) k s) o (done_as cause.Stop (scalar_in_machine around i s)) ≡ Ok t
+      → at_break (λ k. breakpoint (doing_in_machine around) k s) o (done_as cause.Stop (scalar_in_machine around i s)) ≡ Ok t
       → Grows Nothing s t
   by_break i s t (Some k) e = broken_grows k s t e
   by_break i s t None e = went_grows i s t (scalar_in_machine around i s) refl e

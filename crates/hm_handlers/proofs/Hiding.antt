@@ -25,7 +25,7 @@ use Rattle.hm_rows.proofs.Context.{context_fresh, fresh}
 use Rattle.hm_rows.proofs.Rows.{row_laws}
 use Rattle.hm_rows.specs.Context.{with_context}
 use Rattle.hm_rows.specs.Rows.{refuse, vector_tree}
-use Rattle.hm_run.specs.Program.{Program, begins, caused, in_machine, rows, unless_refused}
+use Rattle.hm_run.specs.Program.{Program, begins, caused, with_cause, rows, unless_refused}
 use Rattle.hm_run.specs.Timed.{counted_with, with_devices}
 use Rattle.hm_sched.specs.Schedule.{Sched}
 use Rattle.hm_state.specs.State.{State, At, Byte, Value, Rest, cells, regs_of}
@@ -158,7 +158,7 @@ context_hides s = subst (Hides s) (sym (context_fresh s)) (one_of s.rest.fpca)
     one_of true = hides_none s
     one_of false = fresh_hides s
 
-pub begins_with : (o : Option Fault) (s t : State) → in_machine (unless_refused o s) ≡ Ok t → t ≡ s
+pub begins_with : (o : Option Fault) (s t : State) → with_cause (unless_refused o s) ≡ Ok t → t ≡ s
 begins_with (Some f) s t e = absurd (ok_err (sym e))
 begins_with None s t e = sym (ok_same e)
 

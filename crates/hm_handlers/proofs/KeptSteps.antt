@@ -8,7 +8,8 @@ use Rattle.hm_regs.specs.Stacks.{HandlerOnMain}
 use Rattle.hm_regs.specs.declared.Regs.{Regs}
 use Rattle.hm_thumb.specs.Blocks.{advanced_byte}
 use Rattle.hm_thumb.specs.Does.{Does, Ends, Faults, Loads, Stores, Done, Runner, after_loads, after_stores, first_stop, run, words}
-use Rattle.hm_thumb.specs.Rows.{in_block, width}
+use Rattle.hm_isa.specs.Code.{width_of}
+use Rattle.hm_thumb.specs.Rows.{in_block}
 use Rattle.hm_thumb.specs.Steps.{finish, settled, step}
 use Rattle.hm_thumb.specs.declared.Way.{Way}
 use Rattle.hm_thumb.specs.declared.Way.TheVariants as way
@@ -70,10 +71,10 @@ module _ {E : Type 0} (R : Runner E) where
   finish-main bytes r (Err e) m h = tt
 
   pub step-number : (i : Instr) (r : Regs) (s : Seen) → IfOk (step R i r s) (λ x. x.regs.ipsr ≡ r.ipsr)
-  step-number i r s = finish-number (width i) r (run R (in_block i r) s) (run-keep r (in_block i r) s (block-keep i r))
+  step-number i r s = finish-number (width_of i) r (run R (in_block i r) s) (run-keep r (in_block i r) s (block-keep i r))
 
   pub step-sound : (i : Instr) (r : Regs) (s : Seen) → IsBlockByte r.it → IfOk (step R i r s) (λ x. IsBlockByte x.regs.it)
-  step-sound i r s b = finish-sound (width i) r (run R (in_block i r) s) b (run-keep r (in_block i r) s (block-keep i r))
+  step-sound i r s b = finish-sound (width_of i) r (run R (in_block i r) s) b (run-keep r (in_block i r) s (block-keep i r))
 
   pub step-main : (i : Instr) (r : Regs) (s : Seen) → HandlerOnMain r → IfOk (step R i r s) (λ x. HandlerOnMain x.regs)
-  step-main i r s m = finish-main (width i) r (run R (in_block i r) s) m (run-keep r (in_block i r) s (block-keep i r))
+  step-main i r s m = finish-main (width_of i) r (run R (in_block i r) s) m (run-keep r (in_block i r) s (block-keep i r))

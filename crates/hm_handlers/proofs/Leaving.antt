@@ -32,7 +32,7 @@ use Rattle.hm_run.proofs.Steps.{past}
 use Rattle.hm_run.specs.declared.Cause.{Cause}
 use Rattle.hm_run.specs.declared.Cause.TheVariants as cause
 use Rattle.hm_run.specs.declared.Reason.TheVariants.{Break}
-use Rattle.hm_run.specs.Program.{Program, answered, asks, breakpoint, by_machine, cause_of, caused, core, done_as, in_machine}
+use Rattle.hm_run.specs.Program.{Program, answered, asks, breakpoint, doing_in_machine, cause_of, caused, core, done_as, with_cause}
 use Rattle.hm_run.specs.Program.{is_ready, most_output, other_here, printed, refusal_rule, rows, served, unless_refused}
 use Rattle.hm_run.specs.Program.{vector_of}
 use Rattle.hm_run.specs.Stops.{at_break, break_of}
@@ -105,7 +105,7 @@ free_it v s h = eqb-true s.rest.it 0
     by_test true y f e = refl
     by_test false y f e = absurd cc
 
-begins_free : (o : Option Fault) (s t : State) → in_machine (unless_refused o s) ≡ Ok t → o ≡ None
+begins_free : (o : Option Fault) (s t : State) → with_cause (unless_refused o s) ≡ Ok t → o ≡ None
 begins_free (Some f) s t e = absurd (ok_err (sym e))
 begins_free None s t e = refl
 
@@ -258,10 +258,10 @@ answered_leaves s (Writes xs) = by_room (nat_lt most_output (length s.rest.outpu
     by_room true = tt
     by_room false = printed_leaves xs s
 
-broken_leaves : (x : Around) (k : ℕ) (s : State) → IfOk (breakpoint (by_machine x) k s) (Kept s)
+broken_leaves : (x : Around) (k : ℕ) (s : State) → IfOk (breakpoint (doing_in_machine x) k s) (Kept s)
 broken_leaves x k s = by_call (asks k)
   where
-    by_call : (b : Bool) → IfOk (cond b (served (by_machine x) s) (Err (cause.Halt (Break k)))) (Kept s)
+    by_call : (b : Bool) → IfOk (cond b (served (doing_in_machine x) s) (Err (cause.Halt (Break k)))) (Kept s)
     by_call true = then_if (Kept s) (caused (asked (runner.in_machine x) (regs_of s) (seen_in s))) (answered cause_of s) (answered_leaves s)
     by_call false = tt
 
@@ -270,7 +270,7 @@ done_leaves s (Ok y) h = h
 done_leaves s (Err f) h = tt
 
 by_break : (x : Around) (i : Instr) (s : State) (o : Option ℕ)
-    → IfOk (at_break (λ k. breakpoint (by_machine x) k s) o (done_as cause.Stop (scalar_in_machine x i s))) (Kept s)
+    → IfOk (at_break (λ k. breakpoint (doing_in_machine x) k s) o (done_as cause.Stop (scalar_in_machine x i s))) (Kept s)
 by_break x i s (Some k) = broken_leaves x k s
 by_break x i s None = done_leaves s (scalar_in_machine x i s) (scalar_leaves x i s)
 

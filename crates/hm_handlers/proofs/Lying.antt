@@ -19,7 +19,7 @@ use Rattle.hm_isa.specs.declared.Flow.TheVariants as flow
 use Rattle.hm_isa.specs.declared.Instr.{Instr}
 use Rattle.hm_isa.specs.declared.Instr.TheVariants as instr
 use Rattle.hm_order.specs.Beats.{then}
-use Rattle.hm_order.specs.Turns.{Which, Older, Younger, turn}
+use Rattle.hm_order.specs.InFlight.{InFlight, Older, Younger, step_in_flight}
 use Rattle.hm_order.specs.Machine.{Config, End, Stopped, Broken as Breaks, begun, older, younger}
 use Rattle.hm_order.proofs.Results.{decide}
 use Rattle.hm_regs.specs.Stacks.{uses_process}
@@ -159,22 +159,22 @@ module _ (listing : Listing) (s : Sched) where
         handler_lies c (older (program_under listing s (x ∷ acts)) c) old
         (fault_grows listing (around_under s (x ∷ acts)) May (handler_beat (main_after x.stacked) (bounds_of s)) f c e)
 
-    handler_step_lies : (t : Which) (c : Config State) → Lies sps c.state (x ∷ acts) → StepLies sps (handler_step listing s t c x acts)
+    handler_step_lies : (t : InFlight) (c : Config State) → Lies sps c.state (x ∷ acts) → StepLies sps (handler_step listing s t c x acts)
     handler_step_lies Older c old = handles_lie c (listing c.state.pc) refl old
     handler_step_lies Younger c old =
         handler_lies c (younger (program_under listing s (x ∷ acts)) c) old
         (younger_grows listing (around_under s (x ∷ acts)) May (handler_beat (main_after x.stacked) (bounds_of s)) c)
 
-  turn_grows : (t : Which) (c : Config State) → StepGrows Nothing c (turn (program_under listing s []) t c)
-  turn_grows Older c = thread_older (bounds_of s) listing c
-  turn_grows Younger c = thread_younger (bounds_of s) listing c
+  in_flight_grows : (t : InFlight) (c : Config State) → StepGrows Nothing c (step_in_flight (program_under listing s []) t c)
+  in_flight_grows Older c = thread_older (bounds_of s) listing c
+  in_flight_grows Younger c = thread_younger (bounds_of s) listing c
 
-  under_lies : (sps : List Pointers) (t : Which) (c : Config State) (acts : List Interrupted) → Lies sps c.state acts
+  under_lies : (sps : List Pointers) (t : InFlight) (c : Config State) (acts : List Interrupted) → Lies sps c.state acts
       → StepLies sps (step_under listing s t c acts)
-  under_lies sps t c [] old = thread_lies sps c (turn (program_under listing s []) t c) old.taint (turn_grows t c)
+  under_lies sps t c [] old = thread_lies sps c (step_in_flight (program_under listing s []) t c) old.taint (in_flight_grows t c)
   under_lies sps t c (x ∷ acts) old = handler_step_lies x acts sps t c old
 
-  step_lies : (sps : List Pointers) (t : Which) (x : Nested) → Lies sps x.config.state x.acts → StepLies sps (step listing s t x)
+  step_lies : (sps : List Pointers) (t : InFlight) (x : Nested) → Lies sps x.config.state x.acts → StepLies sps (step listing s t x)
   step_lies sps t x h = under_lies sps t x.config x.acts h
 
   -- LETTERS

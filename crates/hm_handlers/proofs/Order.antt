@@ -18,7 +18,7 @@ use Rattle.hm_isa.specs.declared.Instr.TheVariants as instr
 use Rattle.hm_mem.specs.Memory.{thread_under}
 use Rattle.hm_mem.specs.declared.Actor.TheVariants.{Thread}
 use Rattle.hm_order.specs.Beats.{then}
-use Rattle.hm_order.specs.Turns.{Which, Older, Younger, turn}
+use Rattle.hm_order.specs.InFlight.{InFlight, Older, Younger, step_in_flight}
 use Rattle.hm_order.specs.Machine.{Config, End, Stopped, Broken as Breaks, younger}
 use Rattle.hm_order.specs.Position.{Agrees, Holds, StopsAt}
 use Rattle.hm_order.proofs.Headline.{explained}
@@ -146,20 +146,20 @@ module _ (listing : Listing) (s : Sched) (first : State) where
   handles_agrees c x acts (Ok (instr.Vector v)) e holds = handler_agrees c x acts _ holds (row_hides listing (around_under s (x ∷ acts)) refl v c e)
   handles_agrees c x acts (Err f) e holds = handler_agrees c x acts _ holds (fault_hides listing (around_under s (x ∷ acts)) refl f c e)
 
-  handler_step_agrees : (t : Which) (c : Config State) (x : Interrupted) (acts : List Interrupted) → InOrder c (x ∷ acts)
+  handler_step_agrees : (t : InFlight) (c : Config State) (x : Interrupted) (acts : List Interrupted) → InOrder c (x ∷ acts)
       → AgreesStep (handler_step listing s t c x acts)
   handler_step_agrees Older c x acts holds = handles_agrees c x acts (listing c.state.pc) refl holds
   handler_step_agrees Younger c x acts holds = handler_agrees c x acts _ holds (younger_hides listing (around_under s (x ∷ acts)) refl c)
 
-  turn_agrees : (t : Which) (c : Config State) → Holds machine first c → Agrees machine first (turn machine t c)
-  turn_agrees Older c h = older_agrees machine (laws listing (thread_under (bounds_of s)) refl) first c h
-  turn_agrees Younger c h = younger_agrees machine (laws listing (thread_under (bounds_of s)) refl) first c h
+  in_flight_agrees : (t : InFlight) (c : Config State) → Holds machine first c → Agrees machine first (step_in_flight machine t c)
+  in_flight_agrees Older c h = older_agrees machine (laws listing (thread_under (bounds_of s)) refl) first c h
+  in_flight_agrees Younger c h = younger_agrees machine (laws listing (thread_under (bounds_of s)) refl) first c h
 
-  under_agrees : (t : Which) (c : Config State) (acts : List Interrupted) → InOrder c acts → AgreesStep (step_under listing s t c acts)
-  under_agrees t c [] h = thread_agrees (turn machine t c) (turn_agrees t c h)
+  under_agrees : (t : InFlight) (c : Config State) (acts : List Interrupted) → InOrder c acts → AgreesStep (step_under listing s t c acts)
+  under_agrees t c [] h = thread_agrees (step_in_flight machine t c) (in_flight_agrees t c h)
   under_agrees t c (x ∷ acts) h = handler_step_agrees t c x acts h
 
-  step_agrees : (t : Which) (x : Nested) → InOrder x.config x.acts → AgreesStep (step listing s t x)
+  step_agrees : (t : InFlight) (x : Nested) → InOrder x.config x.acts → AgreesStep (step listing s t x)
   step_agrees t x h = under_agrees t x.config x.acts h
 
   -- LETTERS

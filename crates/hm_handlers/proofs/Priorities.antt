@@ -12,7 +12,8 @@ use Rattle.hm_mem.specs.declared.Word.{Word}
 use Rattle.hm_mem.specs.declared.Word.TheVariants.{Csr, Ipr, Shpr3, Fixed}
 use Rattle.hm_regs.specs.declared.Regs.{Regs}
 use Rattle.hm_thumb.specs.Does.{Does, Ends, Faults, Loads, Stores, Done, Runner, after_loads, after_stores, behind, first_stop, run, words}
-use Rattle.hm_thumb.specs.Rows.{in_block, width}
+use Rattle.hm_isa.specs.Code.{width_of}
+use Rattle.hm_thumb.specs.Rows.{in_block}
 use Rattle.hm_thumb.specs.Steps.{finish, step}
 use Rattle.hm_handlers.specs.Levels.{HasLevels, IsLevel}
 use Rattle.hm_handlers.proofs.Choices.{either, if_done}
@@ -75,4 +76,4 @@ module _ {E : Type 0} (R : Runner E) where
   finish-levels bytes (Err e) h = tt
 
   pub step-levels : (i : Instr) (r : Regs) (s : Seen) → HasLevels s.devices → IfOk (step R i r s) (λ x. HasLevels x.seen.devices)
-  step-levels i r s h = finish-levels (width i) (run R (in_block i r) s) (run-levels (in_block i r) s h)
+  step-levels i r s h = finish-levels (width_of i) (run R (in_block i r) s) (run-levels (in_block i r) s h)

@@ -14,7 +14,7 @@ use Rattle.hm_in_order.proofs.Wholes.{older_steps, to_end as thread_to_end}
 use Rattle.hm_in_order.specs.Overlap.{AgreesAfter, StaysInOrder}
 use Rattle.hm_order.specs.Beats.{then}
 use Rattle.hm_order.specs.Machine.{Config, Stopped, Broken, older, younger}
-use Rattle.hm_order.specs.Turns.{Older, Younger}
+use Rattle.hm_order.specs.InFlight.{Older, Younger}
 use Rattle.hm_run.specs.declared.Outcome.{Outcome}
 use Rattle.hm_run.specs.declared.Outcome.TheVariants as outcome
 use Rattle.hm_run.specs.Program.{Program, Stepped, steps_left, vector_of}

@@ -22,7 +22,7 @@ use Rattle.hm_mem.specs.Memory.{Around}
 use Rattle.hm_mem.specs.declared.Actor.TheVariants.{Thread}
 use Rattle.hm_mem.specs.declared.Dev.{Dev}
 use Rattle.hm_order.specs.Beats.{then}
-use Rattle.hm_order.specs.Turns.{Which, Older, Younger, turn}
+use Rattle.hm_order.specs.InFlight.{InFlight, Older, Younger, step_in_flight}
 use Rattle.hm_order.specs.Machine.{Config, End, Stopped, older, younger}
 use Rattle.hm_regs.specs.declared.Regs.{Regs}
 use Rattle.hm_run.specs.declared.Cause.{Cause}
@@ -155,20 +155,20 @@ module _ (s : Sched) where
           row_sound c (older (program_under listing s (x ∷ acts)) c) h (vector_leaves listing (around_under s (x ∷ acts)) v c h.inside (ap vector_of e))
       handles_sound c (Err f) e h = row_sound c (older (program_under listing s (x ∷ acts)) c) h (fault_leaves listing (around_under s (x ∷ acts)) f c e)
 
-      handler_sound : (t : Which) (c : Config State) → Sound c (x ∷ acts) → StepSound (handler_step listing s t c x acts)
+      handler_sound : (t : InFlight) (c : Config State) → Sound c (x ∷ acts) → StepSound (handler_step listing s t c x acts)
       handler_sound Older c h = handles_sound c (listing c.state.pc) refl h
       handler_sound Younger c h = row_sound c (younger (program_under listing s (x ∷ acts)) c) h (younger_leaves listing (around_under s (x ∷ acts)) c h.inside)
 
   module _ (listing : Listing) where
-    turn_leaves : (t : Which) (c : Config State) → FitsInside c → IfOk (turn (program_under listing s []) t c) (StepLeaves c)
-    turn_leaves Older c inside = older_leaves listing (around_under s []) c inside
-    turn_leaves Younger c inside = younger_steps listing (around_under s []) c inside
+    in_flight_leaves : (t : InFlight) (c : Config State) → FitsInside c → IfOk (step_in_flight (program_under listing s []) t c) (StepLeaves c)
+    in_flight_leaves Older c inside = older_leaves listing (around_under s []) c inside
+    in_flight_leaves Younger c inside = younger_steps listing (around_under s []) c inside
 
-    under_sound : (t : Which) (c : Config State) (acts : List Interrupted) → Sound c acts → StepSound (step_under listing s t c acts)
-    under_sound t c [] h = thread_sound c (turn (program_under listing s []) t c) h (turn_leaves t c h.inside)
+    under_sound : (t : InFlight) (c : Config State) (acts : List Interrupted) → Sound c acts → StepSound (step_under listing s t c acts)
+    under_sound t c [] h = thread_sound c (step_in_flight (program_under listing s []) t c) h (in_flight_leaves t c h.inside)
     under_sound t c (x ∷ acts) h = handler_sound x acts listing t c h
 
-    pub step_sound : (t : Which) (x : Nested) → IsSound s x → StepSound (step listing s t x)
+    pub step_sound : (t : InFlight) (x : Nested) → IsSound s x → StepSound (step listing s t x)
     step_sound t x h = under_sound t x.config x.acts h
 
     -- LETTERS

@@ -13,7 +13,7 @@ use Rattle.hm_order.specs.Machine.{Config, End, Stopped, Broken, begin, did, don
 use Rattle.hm_order.proofs.Results.{err_same, ok_err, then_err, then_ok}
 use Rattle.hm_run.specs.declared.Cause.{Cause}
 use Rattle.hm_run.specs.declared.Cause.TheVariants as cause
-use Rattle.hm_run.specs.Program.{Program, caused, core, in_machine, other_here, rows, unless_refused, vector_of}
+use Rattle.hm_run.specs.Program.{Program, caused, core, with_cause, other_here, rows, unless_refused, vector_of}
 use Rattle.hm_rows.specs.Context.{with_context}
 use Rattle.hm_rows.specs.Rows.{refuse}
 use Rattle.hm_state.specs.State.{State}
@@ -37,7 +37,7 @@ ends_caused : (r : Result State Stop) (e : Cause) → caused r ≡ Err e → IsS
 ends_caused (Ok s) e h = absurd (ok_err h)
 ends_caused (Err f) e h = subst IsStop (err_same h) tt
 
-ends_begun : (o : Option Fault) (s : State) (e : Cause) → in_machine (unless_refused o s) ≡ Err e → IsStop e
+ends_begun : (o : Option Fault) (s : State) (e : Cause) → with_cause (unless_refused o s) ≡ Err e → IsStop e
 ends_begun (Some f) s e h = subst IsStop (err_same h) tt
 ends_begun None s e h = absurd (ok_err h)
 

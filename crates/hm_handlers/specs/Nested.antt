@@ -15,7 +15,7 @@ use Rattle.hm_isa.specs.declared.Instr.{Instr}
 use Rattle.hm_isa.specs.declared.Instr.TheVariants as instr
 use Rattle.hm_mem.specs.Memory.{Around, thread_under}
 use Rattle.hm_order.specs.Beats.{then}
-use Rattle.hm_order.specs.Turns.{Which, Older, Younger, turn}
+use Rattle.hm_order.specs.InFlight.{InFlight, Older, Younger, step_in_flight}
 use Rattle.hm_order.specs.Machine.{Config, End, Stopped, begun, older, younger}
 use Rattle.hm_run.specs.declared.Cause.{Cause}
 use Rattle.hm_run.specs.declared.Cause.TheVariants as cause
@@ -96,17 +96,17 @@ handles M around (Ok (instr.Vector v)) c x acts = with_acts (x ∷ acts) (uncoun
 handles M around (Err f) c x acts = with_acts (x ∷ acts) (uncounted c (older M c))
 
 -- A STEP of the older instruction, or of the younger
-abbrev pub handler_step : Listing → Sched → Which → Config State → Interrupted → List Interrupted → NestedStep
+abbrev pub handler_step : Listing → Sched → InFlight → Config State → Interrupted → List Interrupted → NestedStep
 handler_step listing s Older c x acts = handles (program_under listing s (x ∷ acts)) (around_under s (x ∷ acts)) (listing c.state.pc) c x acts
 handler_step listing s Younger c x acts = with_acts (x ∷ acts) (uncounted c (younger (program_under listing s (x ∷ acts)) c))
 
 -- a step of the thread, where nothing is interrupted, and else of a handler
-abbrev pub step_under : Listing → Sched → Which → Config State → List Interrupted → NestedStep
-step_under listing s t c [] = with_acts [] (turn (program_under listing s []) t c)
+abbrev pub step_under : Listing → Sched → InFlight → Config State → List Interrupted → NestedStep
+step_under listing s t c [] = with_acts [] (step_in_flight (program_under listing s []) t c)
 step_under listing s t c (x ∷ acts) = handler_step listing s t c x acts
 
 -- a step of the older instruction or of the younger, by who runs
-abbrev pub step : Listing → Sched → Which → Nested → NestedStep
+abbrev pub step : Listing → Sched → InFlight → Nested → NestedStep
 step listing s t x = step_under listing s t x.config x.acts
 
 -- so many steps of the older

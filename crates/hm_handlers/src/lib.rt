@@ -6,7 +6,7 @@ ghost use Rattle.std.specs.Prelude.{◌≡◌, ℕ, ◌<◌, ◌≤◌, true, fa
 ghost use Rattle.hm_base.specs.Image.{Segment};
 ghost use Rattle.hm_codes.specs.Listing.{Listing};
 ghost use Rattle.hm_exc.specs.Entry.{CanEnter, entry_refusal};
-ghost use Rattle.hm_order.specs.Turns.{Which};
+ghost use Rattle.hm_order.specs.InFlight.{InFlight};
 ghost use Rattle.hm_handlers.specs.Ends.{GoesOn};
 ghost use Rattle.hm_in_order.specs.Readings.{ShownInOrder};
 ghost use Rattle.hm_run.specs.Headline.{Headline, Riders};
@@ -79,7 +79,7 @@ pub fn without_entries()
 /// fits.
 pub fn sound()
     ensures start { (image : List Segment) (s : Sched) → IsSound s (begin image s).machine }
-    ensures step { (listing : Listing) (s : Sched) (t : Which) (x : Nested) → IsSound s x → IfOk (step listing s t x) (IsSound s) }
+    ensures step { (listing : Listing) (s : Sched) (t : InFlight) (x : Nested) → IsSound s x → IfOk (step listing s t x) (IsSound s) }
     ensures letters { (listing : Listing) (s : Sched) (k : ℕ) (ls : List ℕ) (x : Nested) → IsSound s x → IfOk (letters listing s k ls x) (IsSound s) }
     ensures counted { (s : Sched) (line : TickLine) (x : Run) → IsSound s x.machine → IsSound s (after_count line x).machine }
     // The registers and the position that an exception may enter at, its number, and room for its activation.

@@ -11,7 +11,7 @@ use Rattle.hm_run.specs.declared.Cause.{Cause}
 use Rattle.hm_run.specs.declared.Cause.TheVariants as cause
 use Rattle.hm_run.specs.declared.Reason.{Reason}
 use Rattle.hm_run.specs.declared.Reason.TheVariants.{Break}
-use Rattle.hm_run.specs.Program.{answered, asks, breakpoint, by_itself, by_machine, cause_of, caused, in_machine}
+use Rattle.hm_run.specs.Program.{answered, asks, breakpoint, doing_alone, doing_in_machine, cause_of, caused, with_cause}
 use Rattle.hm_run.specs.Program.{is_tainted_cause, itself, most_output, or_fault, printed}
 use Rattle.hm_run.specs.Stops as why
 use Rattle.hm_run.specs.Stops.{WholeStop, at_break}
@@ -77,7 +77,7 @@ module _ (s t : State) (live : Live view s t) (at : s.pc ≡ t.pc) where
       )
   answered_alike (Exits reason) = refl
 
-  pub asked_alike : (bounds : Bounds) (k : ℕ) → TaintedOrAlike (breakpoint (by_machine (thread_under bounds)) k s) (breakpoint by_itself k t)
+  pub asked_alike : (bounds : Bounds) (k : ℕ) → TaintedOrAlike (breakpoint (doing_in_machine (thread_under bounds)) k s) (breakpoint doing_alone k t)
   asked_alike bounds k =
       broken_alike (asks k) (Break k) _ _
       (served_alike (answered cause_of s) (answered itself t) _ _ answered_alike
@@ -112,33 +112,33 @@ module _ (s : State) (clean : NoTaint s) where
   either_leaves true reason r h = h
   either_leaves false reason r h = tt
 
-  pub broken_leaves : (k : ℕ) → Leaves (breakpoint by_itself k s)
+  pub broken_leaves : (k : ℕ) → Leaves (breakpoint doing_alone k s)
   broken_leaves k = either_leaves (asks k) (Break k) _ (served_leaves _)
 
 -- WITHOUT TAINT it comes in the machine to what it comes to alone
 pub break_same : (f : ℕ → Result State Cause) (g : ℕ → Result State WholeStop) (o : Option ℕ) (r : Result State Cause) (q : Result State WholeStop)
-    → ((k : ℕ) → f k ≡ in_machine (g k)) → r ≡ in_machine q → at_break f o r ≡ in_machine (at_break g o q)
+    → ((k : ℕ) → f k ≡ with_cause (g k)) → r ≡ with_cause q → at_break f o r ≡ with_cause (at_break g o q)
 break_same f g (Some k) r q h l = h k
 break_same f g None r q h l = l
 
-room_same : (b : Bool) (u : State) → cond b (Err cause.Full) (Ok u) ≡ in_machine (cond b (Err why.Full) (Ok u))
+room_same : (b : Bool) (u : State) → cond b (Err cause.Full) (Ok u) ≡ with_cause (cond b (Err why.Full) (Ok u))
 room_same true u = refl
 room_same false u = refl
 
-answered_same : (s : State) (x : Asked) → answered cause_of s x ≡ in_machine (answered itself s x)
+answered_same : (s : State) (x : Asked) → answered cause_of s x ≡ with_cause (answered itself s x)
 answered_same s (Writes xs) = room_same _ (printed xs s)
 answered_same s (Exits reason) = refl
 
-served_same : (s : State) (q : Result Asked Fault) → then (caused (as_stops q)) (answered cause_of s) ≡ in_machine (then (or_fault q) (answered itself s))
+served_same : (s : State) (q : Result Asked Fault) → then (caused (as_stops q)) (answered cause_of s) ≡ with_cause (then (or_fault q) (answered itself s))
 served_same s (Ok x) = answered_same s x
 served_same s (Err f) = refl
 
-either_same : (b : Bool) (reason : Reason) (r : Result State Cause) (q : Result State WholeStop) → r ≡ in_machine q
-    → cond b r (Err (cause.Halt reason)) ≡ in_machine (cond b q (Err (why.Halt reason)))
+either_same : (b : Bool) (reason : Reason) (r : Result State Cause) (q : Result State WholeStop) → r ≡ with_cause q
+    → cond b r (Err (cause.Halt reason)) ≡ with_cause (cond b q (Err (why.Halt reason)))
 either_same true reason r q h = h
 either_same false reason r q h = refl
 
-pub broken_same : (bounds : Bounds) (k : ℕ) (s : State) → NoTaint s → breakpoint (by_machine (thread_under bounds)) k s ≡ in_machine (breakpoint by_itself k s)
+pub broken_same : (bounds : Bounds) (k : ℕ) (s : State) → NoTaint s → breakpoint (doing_in_machine (thread_under bounds)) k s ≡ with_cause (breakpoint doing_alone k s)
 broken_same bounds k s clean =
     either_same (asks k) (Break k) _ _
     (ap (λ q. then (caused q) (answered cause_of s)) (asked-same bounds (seen_in s) clean (regs_of s))

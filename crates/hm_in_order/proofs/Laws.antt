@@ -38,7 +38,7 @@ use Rattle.hm_beat.specs.declared.clash.Clash.{Clash}
 use Rattle.hm_beat.specs.Meeting.{clash_with}
 use Rattle.hm_beat.proofs.Remaining.{left_apart}
 use Rattle.hm_window.specs.Overlap.{first_rule, is_too_early, rule_of_clash}
-use Rattle.hm_run.specs.Program.{alone, begins, by_itself, by_machine, cause_of, caused, core, done_as, in_machine, is_ready}
+use Rattle.hm_run.specs.Program.{alone, begins, doing_alone, doing_in_machine, cause_of, caused, core, done_as, with_cause, is_ready}
 use Rattle.hm_run.specs.Program.{is_tainted_cause, lifted, makes_here, on_cell, or_fault, other_here, other_row, ready_state}
 use Rattle.hm_run.specs.Program.{refusal_rule, rows, step_rule, unless_refused, vector_of, whole_here}
 use Rattle.hm_whole.specs.Watched.{GoesAlike, Watched, In, Beside, Held, InCell, Besides, open_rest, held, dead, view}
@@ -121,9 +121,9 @@ done_alike (Err e) (Err f) (inl h) = inl h
 done_alike (Err e) (Err f) (inr h) = inr (ap cause.Stop h)
 
 module _ (x : Around) (thread : x.actor ≡ Thread) where
-  by_thread : (i : Instr) (s t : State) → Live view s t → s.pc ≡ t.pc → TaintedOrAlike (other_row (by_machine x) i s) (other_row by_itself i t)
+  by_thread : (i : Instr) (s t : State) → Live view s t → s.pc ≡ t.pc → TaintedOrAlike (other_row (doing_in_machine x) i s) (other_row doing_alone i t)
   by_thread i s t h e =
-      subst (λ (y : Around). TaintedOrAlike (other_row (by_machine y) i s) (other_row by_itself i t)) (sym (under_thread x thread))
+      subst (λ (y : Around). TaintedOrAlike (other_row (doing_in_machine y) i s) (other_row doing_alone i t)) (sym (under_thread x thread))
       (break_alike _ _ (break_of i) _ _ (asked_alike s t h e x.bounds)
       (done_alike (scalar_in_machine (thread_under x.bounds) i s) (scalar_alone i t) (whole-live x.bounds i s t h e)))
 
@@ -351,7 +351,7 @@ module _ (x : Around) (thread : x.actor ≡ Thread) where
   four_same (Err w) (Err f) e = ap cause.Stop (err_same e)
 
   whole_from : (v : Vector) (s : State) → cell.NoTaint s → (q : Result State WholeStop) → ready_state v s ≡ q
-      → AlikeAs cause_of (Same view) (then (in_machine q) (beats (rows x) v 0 4)) (then q (λ t. or_fault (vector_whole v t)))
+      → AlikeAs cause_of (Same view) (then (with_cause q) (beats (rows x) v 0 4)) (then q (λ t. or_fault (vector_whole v t)))
   whole_from v s clean (Err w) e = refl
   whole_from v s clean (Ok t) e =
       let free = not_refused (refuse v (with_context s)) (with_context s) t e in
@@ -361,7 +361,7 @@ module _ (x : Around) (thread : x.actor ≡ Thread) where
       (four_are x thread v t there (ap (refuse v) (sym free.1) ∙ free.0) (subst cell.NoTaint free.1 (context_clean s clean))))
 
 -- HOW A ROW BEGINS
-machine_ok : (r : Result State WholeStop) (t : State) → in_machine r ≡ Ok t → r ≡ Ok t
+machine_ok : (r : Result State WholeStop) (t : State) → with_cause r ≡ Ok t → r ≡ Ok t
 machine_ok (Ok s) t e = ap Ok (ok_same e)
 machine_ok (Err w) t e = absurd (ok_err (sym e))
 
@@ -391,10 +391,10 @@ none_of (Some f) e = absurd cc
 started : (v : Vector) (s : State) → is_ready v s ≡ true → begins v s ≡ Ok s
 started v s ready =
     let h = both_true s.rest.fpca (is_none (refuse v s)) ready in
-    ap (λ (t : State). in_machine (unless_refused (refuse v t) t)) (context_there s h.0)
-    ∙ ap (λ (o : Option Fault). in_machine (unless_refused o s)) (none_of (refuse v s) h.1)
+    ap (λ (t : State). with_cause (unless_refused (refuse v t) t)) (context_there s h.0)
+    ∙ ap (λ (o : Option Fault). with_cause (unless_refused o s)) (none_of (refuse v s) h.1)
 
-begin_alike : (o : Option Fault) (s t : State) → Live view s t → Alike (Live view) (in_machine (unless_refused o s)) (in_machine (unless_refused o t))
+begin_alike : (o : Option Fault) (s t : State) → Live view s t → Alike (Live view) (with_cause (unless_refused o s)) (with_cause (unless_refused o t))
 begin_alike (Some f) s t h = refl
 begin_alike None s t h = h
 
@@ -405,7 +405,7 @@ start_live v s t h pc =
     = refuse_same v (with_context s) (with_context t) (ap (λ (r : Rest). r.it) a.rest) (ap (λ (y : Value). y.n) (a.places Ltp))
     (ap (λ (r : Rest). r.fpca) a.rest)
     (context_pc s ∙ pc ∙ sym (context_pc t)) in
-    subst (λ (o : Option Fault). Alike (Live view) (begins v s) (in_machine (unless_refused o (with_context t)))) same
+    subst (λ (o : Option Fault). Alike (Live view) (begins v s) (with_cause (unless_refused o (with_context t)))) same
     (begin_alike (refuse v (with_context s)) (with_context s) (with_context t) (live (with_context s) (with_context t) a))
 
 pub laws : (listing : Listing) (around : Around) → around.actor ≡ Thread → CoreLaws (core listing around)

@@ -28,7 +28,7 @@ use Rattle.hm_window.specs.declared.rule.Rule.{Rule}
 use Rattle.hm_window.specs.declared.rule.Rule.TheVariants as rule
 use Rattle.hm_run.specs.declared.Who.{Who}
 use Rattle.hm_run.specs.declared.Who.TheVariants.{Thread, Handler, Entry}
-use Rattle.hm_run.specs.Program.{Program, Stepped, Stopping, alone, breakpoint, by_itself, cause_of, core, done_as}
+use Rattle.hm_run.specs.Program.{Program, Stepped, Stopping, alone, breakpoint, doing_alone, cause_of, core, done_as}
 use Rattle.hm_run.specs.Program.{is_tainted_cause, makes_here, or_fault, unless_refused, vector_of, whole_here}
 use Rattle.hm_whole.specs.Watched.{Watched, In, Beside, view, held, dead}
 use Rattle.hm_mem.specs.Devices.{open_devices}
@@ -129,7 +129,7 @@ module _ (listing : Listing) (around : Around) (thread : around.actor ≡ actor.
   makes_none : (x : Result Instr Fault) (s : State) (w : WholeStop) → is_fault w ≡ false → vector_of x ≡ None → whole_here x s ≡ Err w
       → makes_here x (regs_of s) ≡ false
   makes_none (Ok (instr.Scalar i)) s w other none e =
-      break_makes (instr.Scalar i) (regs_of s) (breaks_first (λ k. breakpoint by_itself k s) (scalar_break i) (scalar_alone (instr.Scalar i) s) w other e)
+      break_makes (instr.Scalar i) (regs_of s) (breaks_first (λ k. breakpoint doing_alone k s) (scalar_break i) (scalar_alone (instr.Scalar i) s) w other e)
   makes_none (Ok (instr.Branch i)) s w other none e = absurd (true_not_false (is_fault w) (done_faults (scalar_alone (instr.Branch i) s) w e) other)
   makes_none (Ok (instr.Vector v)) s w other none e = absurd cc
   makes_none (Err f) s w other none e = refl

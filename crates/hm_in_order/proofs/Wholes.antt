@@ -19,7 +19,7 @@ use Rattle.hm_rows.specs.Rows.{refuse, vector_tree, vector_whole}
 use Rattle.hm_rows.proofs.Context.{context_pc, context_ready}
 use Rattle.hm_run.specs.declared.Cause.{Cause}
 use Rattle.hm_run.specs.declared.Cause.TheVariants as cause
-use Rattle.hm_run.specs.Program.{Program, Stepped, alone, by_itself, by_machine, cause_of, caused, core, done_as, in_machine}
+use Rattle.hm_run.specs.Program.{Program, Stepped, alone, doing_alone, doing_in_machine, cause_of, caused, core, done_as, with_cause}
 use Rattle.hm_run.specs.Program.{or_fault, other_here, other_row, ready_state, rows, steps_left, vector_of, vector_row}
 use Rattle.hm_run.specs.Program.{whole_here}
 use Rattle.hm_run.specs.Stops.{Faults, WholeStop, break_of}
@@ -55,7 +55,7 @@ done_leaves : (q : Result Went Fault) → GoesClean q → Leaves (done_as Faults
 done_leaves (Ok x) h = λ a. h (In (Byte a))
 done_leaves (Err f) h = tt
 
-other_leaves : (i : Instr) (s : State) → NoTaint s → Leaves (other_row by_itself i s)
+other_leaves : (i : Instr) (s : State) → NoTaint s → Leaves (other_row doing_alone i s)
 other_leaves i s h = break_leaves _ (break_of i) (done_as Faults (scalar_alone i s)) (broken_leaves s h)
     (done_leaves (scalar_alone i s) (whole-clean i s (watched_clean s h)))
 
@@ -71,20 +71,20 @@ module _ (around : Around) (thread : around.actor ≡ Thread) where
   leaves (Err f) s h = tt
 
 -- WITHOUT TAINT an instruction that is no vector row comes in the machine to what it comes to alone
-done_same : (q : Result Went Fault) → done_as cause.Stop (as_stops q) ≡ in_machine (done_as Faults q)
+done_same : (q : Result Went Fault) → done_as cause.Stop (as_stops q) ≡ with_cause (done_as Faults q)
 done_same q = grind arith
 
 pub under_thread : (x : Around) → x.actor ≡ Thread → x ≡ thread_under x.bounds
 under_thread x e = λ j. record { actor = e j; bounds = x.bounds }
 
 module _ (x : Around) (thread : x.actor ≡ Thread) where
-  same_is : (i : Instr) (s : State) → NoTaint s → other_row (by_machine x) i s ≡ in_machine (other_row by_itself i s)
+  same_is : (i : Instr) (s : State) → NoTaint s → other_row (doing_in_machine x) i s ≡ with_cause (other_row doing_alone i s)
   same_is i s clean =
-      ap (λ (y : Around). other_row (by_machine y) i s) (under_thread x thread)
+      ap (λ (y : Around). other_row (doing_in_machine y) i s) (under_thread x thread)
       ∙ break_same _ _ (break_of i) _ _ (λ k. broken_same x.bounds k s clean)
       (ap (done_as cause.Stop) (whole-same x.bounds i s (watched_clean s clean)) ∙ done_same (scalar_alone i s))
 
-  other_is : (r : Result Instr Fault) (s : State) → vector_of r ≡ None → NoTaint s → other_here x r s ≡ in_machine (whole_here r s)
+  other_is : (r : Result Instr Fault) (s : State) → vector_of r ≡ None → NoTaint s → other_here x r s ≡ with_cause (whole_here r s)
   other_is (Ok (instr.Scalar i)) s none clean = same_is (instr.Scalar i) s clean
   other_is (Ok (instr.Branch i)) s none clean = same_is (instr.Branch i) s clean
   other_is (Ok (instr.Vector v)) s none clean = absurd cc
@@ -149,7 +149,7 @@ module _ (listing : Listing) (around : Around) (thread : around.actor ≡ Thread
   -- a row from its start
   row_comes : (v : Vector) (n k : ℕ) (s : State) → NoTaint s → Here v s → (q : Result State WholeStop) → ready_state v s ≡ q
       → Comes n (then q (λ t. or_fault (vector_whole v t)))
-      (then (done machine (between n k s) (then (in_machine q) ((rows around).act v 0).run) (settle machine 1 0 n (suc k))) (older_steps machine 3))
+      (then (done machine (between n k s) (then (with_cause q) ((rows around).act v 0).run) (settle machine 1 0 n (suc k))) (older_steps machine 3))
   row_comes v n k s clean here (Err w) e = (begun machine (between n k s), refl, refl)
   row_comes v n k s clean here (Ok t) e =
       let free = not_refused (refuse v (with_context s)) (with_context s) t e in
@@ -175,7 +175,7 @@ module _ (listing : Listing) (around : Around) (thread : around.actor ≡ Thread
 
   -- an instruction that is no vector row
   other_comes : (n k : ℕ) (s : State) (q : Result State WholeStop)
-      → Comes n q (then (done machine (between n k s) (in_machine q) (past (between n k s))) (older_steps machine 0))
+      → Comes n q (then (done machine (between n k s) (with_cause q) (past (between n k s))) (older_steps machine 0))
   other_comes n k s (Ok t) = (suc k, refl)
   other_comes n k s (Err w) = (begun machine (between n k s), refl, refl)
 

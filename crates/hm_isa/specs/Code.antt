@@ -1,5 +1,5 @@
 -- What each instruction is coded as.
-use Rattle.std.specs.Prelude.{ℕ, ◌+◌, ◌/◌, ◌%◌, List, [], ◌∷◌}
+use Rattle.std.specs.Prelude.{ℕ, ◌+◌, ◌*◌, ◌/◌, ◌%◌, List, [], ◌∷◌, length}
 use Rattle.hm_isa.specs.declared.narrow.ShiftName.{ShiftName}
 use Rattle.hm_isa.specs.declared.narrow.ShiftName.TheVariants as shift
 use Rattle.hm_isa.specs.declared.narrow.S1.{S1}
@@ -866,3 +866,7 @@ halves_by_width (by.Vector r) = two_halves (vector_code r)
 -- the halfwords of an instruction, one or two, as they stand one after another in memory
 abbrev pub halfwords : Instr → List ℕ
 halfwords i = halves_by_width (by_width i)
+
+-- how many bytes the code of an instruction has
+abbrev pub width_of : Instr → ℕ
+width_of i = 2 * length (halfwords i)

@@ -2,7 +2,7 @@
 #![tactic(auto)]
 
 ghost use Rattle.std.specs.Prelude.{◌≡◌, ◌*◌, length};
-ghost use Rattle.hm_isa.specs.Code.{halfwords, halves_by_width};
+ghost use Rattle.hm_isa.specs.Code.{halves_by_width, width_of};
 ghost use Rattle.hm_isa.specs.Widths.{branch_by_width, scalar_by_width};
 
 mod arith;
@@ -401,7 +401,7 @@ fn branch_width(i: &Branch) -> u32
 
 /// How many bytes the code of an instruction has: 2 or 4.
 pub fn width(i: &Instr) -> u32
-    ensures { result ≡ 2 * length (halfwords i.now) }
+    ensures { result ≡ width_of i.now }
 {
     match i {
         Instr::Scalar(i) => scalar_width(i),

@@ -27,7 +27,8 @@ use Rattle.hm_thumb.specs.Blocks.{advanced, advanced_byte, condition_holds, cond
 use Rattle.hm_thumb.specs.Does.{Does, Ends, alone, goes, run}
 use Rattle.hm_thumb.specs.DataRows.{half_put, t4}
 use Rattle.hm_thumb.specs.RegisterRows.{byte_row, operand, put, put_any, reg, s4, s6, with_nz, with_nzcv}
-use Rattle.hm_thumb.specs.Rows.{instr_does, is_breakpoint, needs_context, runs, width}
+use Rattle.hm_isa.specs.Code.{width_of}
+use Rattle.hm_thumb.specs.Rows.{instr_does, is_breakpoint, needs_context, runs}
 use Rattle.hm_thumb.specs.Steps.{Stepped, finish, flow_of, go_on, settled, step}
 use Rattle.hm_thumb.specs.declared.Way.{Way}
 use Rattle.hm_thumb.specs.declared.Way.TheVariants as way
@@ -212,8 +213,8 @@ passed r e = ap (λ (b : Bool). not b || condition_holds (r.it / 16) r) (outside
 
 -- what an instruction that runs does
 step_is : (i : Instr) (r : Regs) (m : Seen) → runs i r ≡ true
-    → step alone i r m ≡ finish (width i) (run alone (instr_does i (cond (needs_context i) (with_context r) r)) m)
-step_is i r m e = ap (λ (b : Bool). finish (width i) (run alone (cond b (instr_does i (cond (b && needs_context i) (with_context r) r)) (goes r)) m)) e
+    → step alone i r m ≡ finish (width_of i) (run alone (instr_does i (cond (needs_context i) (with_context r) r)) m)
+step_is i r m e = ap (λ (b : Bool). finish (width_of i) (run alone (cond b (instr_does i (cond (b && needs_context i) (with_context r) r)) (goes r)) m)) e
 
 -- an instruction runs where no block holds
 pub scalar_runs : (x : Scalar) (r : Regs) → r.it ≡ 0 → runs (instr.Scalar x) r ≡ true
@@ -237,14 +238,14 @@ module _ (t : ElementType) (listing : Listing) where
   -- an instruction that ends with registers, in one of the ways that go on
   pub ended : (i : Instr) (v w : View) (s : State) (go : Way) (r' q : Regs) → Shows t v s → listing v.pc ≡ Ok i
       → program.whole i s ≡ program.done_as Faults (scalar_alone i s)
-      → runs i (regs_of s) ≡ true → instr_does i (cond (needs_context i) (with_context (regs_of s)) (regs_of s)) ≡ Ends go r' → settled (width i) go r' ≡ q
+      → runs i (regs_of s) ≡ true → instr_does i (cond (needs_context i) (with_context (regs_of s)) (regs_of s)) ≡ Ends go r' → settled (width_of i) go r' ≡ q
       → InRegs t w q (seen_in s)
       → Reaches (program.alone listing) (Shows t) 1 s w
   ended i v w s go r' q shows here other runs does leaves in_regs =
       let r = regs_of s in
       let m = seen_in s in
       let step_comes : step alone i r m ≡ Ok (record { flow = flow_of go; regs = q; seen = m }) = step_is i r m runs
-      ∙ ap (λ (d : Does). finish (width i) (run alone d m)) does ∙ ap (λ (x : Regs). Ok (record { flow = flow_of go; regs = x; seen = m })) leaves in
+      ∙ ap (λ (d : Does). finish (width_of i) (run alone d m)) does ∙ ap (λ (x : Regs). Ok (record { flow = flow_of go; regs = x; seen = m })) leaves in
       let u = state_with q m s.rest.around s.rest.output in
       reached i w s u (ap listing shows.pc ∙ here) (other ∙ ap (λ (x : Result Stepped Fault). program.done_as Faults (goes_from s x)) step_comes)
       (to_state t w q m s.rest.around s.rest.output in_regs)
@@ -252,11 +253,11 @@ module _ (t : ElementType) (listing : Listing) where
   -- an instruction that goes on to the next
   pub went_on : (i : Instr) (v w : View) (s : State) (r' : Regs) → Shows t v s → listing v.pc ≡ Ok i → program.whole i s ≡ program.done_as Faults (scalar_alone i s)
       → runs i (regs_of s) ≡ true → instr_does i (cond (needs_context i) (with_context (regs_of s)) (regs_of s)) ≡ goes r' → InRegs t w r' (seen_in s)
-      → w.pc + width i < 2 ^ 32
-      → Reaches (program.alone listing) (Shows t) 1 s (record w { pc = w.pc + width i })
+      → w.pc + width_of i < 2 ^ 32
+      → Reaches (program.alone listing) (Shows t) 1 s (record w { pc = w.pc + width_of i })
   went_on i v w s r' shows here other runs does in_regs fits =
-      ended i v (record w { pc = w.pc + width i }) s way.On r' (go_on (width i) (advanced r')) shows here other runs does refl
-      (gone_on t w r' (seen_in s) in_regs (width i) fits)
+      ended i v (record w { pc = w.pc + width_of i }) s way.On r' (go_on (width_of i) (advanced r')) shows here other runs does refl
+      (gone_on t w r' (seen_in s) in_regs (width_of i) fits)
 
   -- THE ROWS
   pub clear : (v : View) (s : State) → Shows t v s → Stands t listing v.pc (Plain Clear) → Reaches (program.alone listing) (Shows t) 1 s (exec t Clear v)

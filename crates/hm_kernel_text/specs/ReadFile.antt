@@ -2,6 +2,7 @@
 use Rattle.std.specs.Prelude.{◌≡◌, ℕ, ◌+◌, List, [], ◌∷◌, length, drop, codes, Option, Some, None, ok_or, Result, Ok, Err, ◌==◌, nat_eq}
 use Rattle.std.specs.Prelude.{if◌then◌else◌, bytes_eq}
 use Rattle.std.specs.List.{starts_with}
+use Rattle.hm_base.specs.Results.{map_err}
 use Rattle.hm_text_base.specs.Reading.{◌>>=◌}
 use Rattle.hm_text_base.specs.Spans.{Lines, lines_of}
 use Rattle.hm_kernel_lang.specs.declared.text.ElementType.{ElementType}
@@ -16,8 +17,7 @@ use Rattle.hm_kernel_text.specs.ReadLine.{line_in}
 
 -- a refusal of the k-th line
 abbrev pub on_line : {A : Type 0} → ℕ → Result A KernelKind → Result A KernelErr
-on_line k (Ok x) = Ok x
-on_line k (Err kind) = Err (refusals.Line k kind)
+on_line k = map_err (refusals.Line k)
 
 -- the next line, where the k-th should be: it may not be missing, and has an end
 abbrev pub line_at : ℕ → Lines → Result (List ℕ × Lines) KernelErr

@@ -6,7 +6,7 @@ ghost use Rattle.hm_base.specs.Image.{flash_byte, flash_size};
 ghost use Rattle.hm_codes.specs.Listing.{Stands};
 ghost use Rattle.hm_isa.specs.declared.Instr.{Instr};
 ghost use Rattle.hm_listing.specs.Listings.{IsListed, entry_line, shown};
-ghost use Rattle.hm_text.specs.Tables.{width_of};
+ghost use Rattle.hm_isa.specs.Code.{width_of};
 
 mod entry;
 mod laws;

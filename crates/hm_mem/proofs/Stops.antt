@@ -1,16 +1,31 @@
--- What an access that nothing stops tells.
-use Rattle.std.proofs.Common.{◌≡◌, ℕ, Bool, true, false, Option, Some, None, refl, ◌∙◌, ap, arith}
+-- What an access that nothing stops tells, and that what stops a store does not depend on the memory.
+use Rattle.std.proofs.Common.{◌≡◌, ℕ, Bool, true, false, Option, Some, None, refl, ◌∙◌, ap, arith, nat_tests}
 use Rattle.std.specs.Option.{option_or}
 use Rattle.hm_base.specs.declared.FaultKind.{FaultKind}
+use Rattle.hm_mem.specs.Devices.{device_word, in_devices}
 use Rattle.hm_mem.specs.Memory.{Around, Bounds}
-use Rattle.hm_mem.specs.Seen.{Seen, is_kept, stop_after, stop_of}
+use Rattle.hm_mem.specs.Seen.{Seen, fault_kind, is_kept, is_thread, stop_after, stop_of}
 use Rattle.hm_mem.specs.declared.Access.{Access}
 use Rattle.hm_mem.specs.declared.Actor.{Actor}
 
 -- of two, neither stops
-pub none_left : {E : Type 0} (o p : Option E) → option_or o p ≡ None → (o ≡ None) × (p ≡ None)
-none_left (Some e) p h = absurd cc
-none_left None p h = (refl, h)
+pub neither_stops : {E : Type 0} (o p : Option E) → option_or o p ≡ None → (o ≡ None) × (p ≡ None)
+neither_stops (Some e) p h = absurd cc
+neither_stops None p h = (refl, h)
+
+-- outside the devices no word of them stands
+pub no_word : (a : ℕ) → in_devices a ≡ false → device_word a ≡ None
+no_word a out = grind (arith, nat_tests, out)
+
+-- there is no fault
+pub no_fault : (k : Option FaultKind) (kept write : Bool) (a : ℕ) → stop_after k kept write a ≡ None → k ≡ None
+no_fault (Some k) true write a h = cc
+no_fault (Some k) false write a h = cc
+no_fault None kept write a h = refl
+
+pub fault_free : (x : Around) (how : Access) (write : Bool) (len a : ℕ) (s : Seen) → stop_of x how write len a s ≡ None
+    → fault_kind (is_thread x.actor) how write len a ≡ None
+fault_free x how write len a s h = no_fault (fault_kind (is_thread x.actor) how write len a) (is_kept x.actor x.bounds write len a s) write a h
 
 -- nobody keeps the bytes
 pub kept_none : (k : Option FaultKind) (kept : Bool) (a : ℕ) → stop_after k kept true a ≡ None → kept ≡ false

@@ -10,7 +10,7 @@ use Rattle.hm_lane.specs.declared.lanes.Size.{Size}
 use Rattle.hm_mem.specs.declared.Access.TheVariants.{Vector}
 use Rattle.hm_mem.specs.Memory.{Around}
 use Rattle.hm_mem.specs.Seen.{Seen, read, stop_of}
-use Rattle.hm_mem.proofs.Stops.{none_left}
+use Rattle.hm_mem.proofs.Stops.{neither_stops}
 use Rattle.hm_beat.specs.Touches.{span_bytes, spanned}
 use Rattle.hm_moves.specs.declared.elements.Element.{Element}
 use Rattle.hm_moves.specs.Coded.{filled_in, first_stop}
@@ -40,14 +40,14 @@ module _ (x : Around) (store : Bool) (len : ℕ) (es : List Element) (k : ℕ) (
   -- where none stops, this one does not, nor any behind it
   pub stop_none : first_stop x store len (drop k es) s ≡ None
       → (stop_of x Vector store len (get_or es k none).addr s ≡ None) × (first_stop x store len (drop (k + 1) es) s ≡ None)
-  stop_none h = none_left _ _ (sym stop_step ∙ h)
+  stop_none h = neither_stops _ _ (sym stop_step ∙ h)
 
 -- none stops of those from one on
 pub drop_none : (x : Around) (store : Bool) (len : ℕ) (es : List Element) (k : ℕ) (s : Seen) → first_stop x store len es s ≡ None
     → first_stop x store len (drop k es) s ≡ None
 drop_none x store len es zero s h = h
 drop_none x store len [] (suc k) s h = refl
-drop_none x store len (e ∷ es) (suc k) s h = drop_none x store len es k s (none_left _ _ h).1
+drop_none x store len (e ∷ es) (suc k) s h = drop_none x store len es k s (neither_stops _ _ h).1
 
 -- SPANS
 spanned-more : (xs : List Span) (x : Span) → spanned (xs ++ x ∷ []) ≡ spanned xs ++ span_bytes x.addr x.len

@@ -11,7 +11,7 @@ use Rattle.hm_isa.specs.declared.Vector.{Vector}
 use Rattle.hm_mem.specs.Memory.{Around}
 use Rattle.hm_order.specs.Beats.{then}
 use Rattle.hm_order.specs.Machine.{Config, begin, done, older, older_of, settle}
-use Rattle.hm_run.specs.Program.{by_machine, core, makes_here, other_here, other_row, rows, vector_of}
+use Rattle.hm_run.specs.Program.{doing_in_machine, core, makes_here, other_here, other_row, rows, vector_of}
 use Rattle.hm_run.specs.Stops.{break_of, scalar_break}
 use Rattle.hm_regs.specs.declared.Regs.{Regs}
 use Rattle.hm_state.specs.State.{State}
@@ -36,7 +36,7 @@ pub older_vector : (listing : Listing) (around : Around) (c : Config State) (v :
 older_vector listing around c v row = ap (λ (o : Option Vector). older_of (core listing around) o c) row
 
 -- INSTRUCTIONS THAT ARE NO VECTOR ROWS
-pub other_is : (around : Around) (i : Instr) (s : State) → IsTrue (not (is_vector_row i)) → other_here around (Ok i) s ≡ other_row (by_machine around) i s
+pub other_is : (around : Around) (i : Instr) (s : State) → IsTrue (not (is_vector_row i)) → other_here around (Ok i) s ≡ other_row (doing_in_machine around) i s
 other_is around (instr.Scalar i) s other = refl
 other_is around (instr.Branch i) s other = refl
 other_is around (instr.Vector v) s other = absurd cc

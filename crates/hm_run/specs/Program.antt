@@ -3,6 +3,7 @@
 use Rattle.std.specs.Prelude.{ℕ, ◌+◌, ◌-◌, ◌&&◌, nat_lt, is_none, Bool, true, false, cond, List, ◌++◌, length, nat_eq, Option, Some}
 use Rattle.std.specs.Prelude.{None, option_map, Result, Ok, Err}
 use Rattle.std.specs.Option.{option_or}
+use Rattle.hm_base.specs.Results.{map_err, unless}
 use Rattle.hm_base.specs.declared.Fault.{Fault}
 use Rattle.hm_base.specs.declared.Stop.{Stop}
 use Rattle.hm_base.specs.declared.Stop.TheVariants as stop
@@ -36,24 +37,18 @@ use Rattle.hm_thumb.specs.declared.Way.TheVariants as way
 use Rattle.hm_whole.specs.Watched.{Watched, In, Beside, Held, dead, view}
 use Rattle.hm_whole.specs.Whole.{Went, scalar_by, seen_in, state_with}
 
+-- what may have a fault, as the end of a whole instruction
+abbrev pub or_fault : {A : Type 0} → Result A Fault → Result A WholeStop
+or_fault = map_err Faults
+
 -- ONE WHOLE INSTRUCTION, in thread mode, alone. A vector row first makes the context where there is none, and may then
 -- be refused.
 abbrev pub unless_refused : Option Fault → State → Result State WholeStop
-unless_refused (Some f) s = Err (Faults f)
-unless_refused None s = Ok s
+unless_refused o s = or_fault (unless o (Ok s))
 
 -- the state with a context, in which a vector row begins, or the fault by which it is refused
 abbrev pub ready_state : Vector → State → Result State WholeStop
 ready_state v s = unless_refused (refuse v (with_context s)) (with_context s)
-
--- a result, with what stops it named so
-abbrev pub named_so : {A F E : Type 0} → (F → E) → Result A F → Result A E
-named_so f (Ok x) = Ok x
-named_so f (Err e) = Err (f e)
-
--- what may have a fault, as the end of a whole instruction
-abbrev pub or_fault : {A : Type 0} → Result A Fault → Result A WholeStop
-or_fault = named_so Faults
 
 -- one whole vector row, alone: with a context, all its beats, where it is not refused
 abbrev pub vector_row : Vector → State → Result State WholeStop
@@ -88,12 +83,12 @@ cause_of Full = cause.Full
 cause_of (Faults f) = cause.Stop (stop.Fault f)
 
 -- alone, in thread mode
-abbrev pub by_itself : Doing Fault WholeStop
-by_itself = record { runner = runner.alone; stopped = Faults; ended = itself }
+abbrev pub doing_alone : Doing Fault WholeStop
+doing_alone = record { runner = runner.alone; stopped = Faults; ended = itself }
 
 -- in the machine, under who accesses the memory
-abbrev pub by_machine : Around → Doing Stop Cause
-by_machine around = record { runner = runner.in_machine around; stopped = cause.Stop; ended = cause_of }
+abbrev pub doing_in_machine : Around → Doing Stop Cause
+doing_in_machine around = record { runner = runner.in_machine around; stopped = cause.Stop; ended = cause_of }
 
 -- what the host does: it writes the bytes behind the output, if there is room, or ends the program
 abbrev pub answered : {E : Type 0} → (WholeStop → E) → State → Asked → Result State E
@@ -102,7 +97,7 @@ answered ended s (Exits reason) = Err (ended (Halt (Exit reason)))
 
 -- BKPT 171: what the program asks of the host is read and done
 abbrev pub served : {F E : Type 0} → Doing F E → State → Result State E
-served d s = then (named_so d.stopped (asked d.runner (regs_of s) (seen_in s))) (answered d.ended s)
+served d s = then (map_err d.stopped (asked d.runner (regs_of s) (seen_in s))) (answered d.ended s)
 
 -- BKPT with number k
 abbrev pub breakpoint : {F E : Type 0} → Doing F E → ℕ → State → Result State E
@@ -119,8 +114,8 @@ other_row d i s = at_break (λ k. breakpoint d k s) (break_of i) (done_as d.stop
 
 -- one whole instruction, alone
 abbrev pub whole : Instr → State → Result State WholeStop
-whole (instr.Scalar i) s = other_row by_itself (instr.Scalar i) s
-whole (instr.Branch i) s = other_row by_itself (instr.Branch i) s
+whole (instr.Scalar i) s = other_row doing_alone (instr.Scalar i) s
+whole (instr.Branch i) s = other_row doing_alone (instr.Branch i) s
 whole (instr.Vector v) s = vector_row v s
 
 -- what stands at the program counter, done; or the fault where nothing stands there
@@ -133,18 +128,18 @@ abbrev pub alone : Listing → State → Result State WholeStop
 alone listing s = whole_here (listing s.pc) s
 
 -- what a whole instruction comes to alone, with the cause that the machine names where it does not go on
-abbrev pub in_machine : Result State WholeStop → Result State Cause
-in_machine = named_so cause_of
+abbrev pub with_cause : Result State WholeStop → Result State Cause
+with_cause = map_err cause_of
 
 -- what stops a part of an instruction, with the cause that the machine names
 abbrev pub caused : {A : Type 0} → Result A Stop → Result A Cause
-caused = named_so cause.Stop
+caused = map_err cause.Stop
 
 -- what stands at the program counter, done whole in the machine, or the fault where nothing stands there
 abbrev pub other_here : Around → Result Instr Fault → State → Result State Cause
-other_here around (Ok (instr.Scalar i)) s = other_row (by_machine around) (instr.Scalar i) s
-other_here around (Ok (instr.Branch i)) s = other_row (by_machine around) (instr.Branch i) s
-other_here around (Ok (instr.Vector v)) s = in_machine (vector_row v s)
+other_here around (Ok (instr.Scalar i)) s = other_row (doing_in_machine around) (instr.Scalar i) s
+other_here around (Ok (instr.Branch i)) s = other_row (doing_in_machine around) (instr.Branch i) s
+other_here around (Ok (instr.Vector v)) s = with_cause (vector_row v s)
 other_here around (Err f) s = Err (cause.Stop (stop.Fault f))
 
 -- whether a stop is for the read of a byte that an entry or a handler wrote, or for a store that a handler may not do
@@ -199,7 +194,7 @@ fault_rule e = cond (is_tainted_cause e) None (Some rule.YoungerFault)
 
 -- what a vector row makes before all else, and whether it is refused then
 abbrev pub begins : Vector → State → Result State Cause
-begins v s = in_machine (ready_state v s)
+begins v s = with_cause (ready_state v s)
 
 -- whether an instruction makes a context, before anything of it may stop
 abbrev pub makes_here : Result Instr Fault → Regs → Bool

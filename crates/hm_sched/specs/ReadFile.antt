@@ -3,6 +3,7 @@ use Rattle.std.specs.Prelude.{◌≡◌, ℕ, Bool, true, false, ◌+◌, List, 
 use Rattle.std.specs.Prelude.{◌==◌, nat_eq, nat_lt, ◌||◌, if◌then◌else◌, bytes_eq}
 use Rattle.std.specs.List.{starts_with}
 use Rattle.hm_base.specs.Image.{sram_start, sram_size}
+use Rattle.hm_base.specs.Results.{map_err}
 use Rattle.hm_text_base.specs.Reading.{◌>>=◌}
 use Rattle.hm_text_base.specs.Spans.{span, Lines, lines_of}
 use Rattle.hm_text_base.specs.Numbers.{hex8_in}
@@ -62,8 +63,7 @@ process_from format floor ls = if format == 1 then Ok (floor, ls) else do
 
 -- a refusal of the k-th line
 abbrev pub on_line : {A : Type 0} → ℕ → Result A LineKind → Result A SchedErr
-on_line k (Ok x) = Ok x
-on_line k (Err kind) = Err (refusals.Line k kind)
+on_line k = map_err (refusals.Line k)
 
 -- the lines of ticks from the k-th line on, with interrupts below most, after lines with so many ticks
 unfoldable pub lines_in : ℕ → ℕ → ℕ → List (List ℕ) → List ℕ → Result (List TickLine) SchedErr

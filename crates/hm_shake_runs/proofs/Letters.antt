@@ -20,7 +20,7 @@ use Rattle.hm_isa.specs.declared.Vector.{Vector}
 use Rattle.hm_mem.specs.Memory.{Around}
 use Rattle.hm_order.specs.Beats.{then}
 use Rattle.hm_order.specs.Machine.{Broken, Config, End, Stopped, begin, done, older, older_of, settle}
-use Rattle.hm_order.specs.Turns.{Older}
+use Rattle.hm_order.specs.InFlight.{Older}
 use Rattle.hm_run.specs.declared.Cause.{Cause}
 use Rattle.hm_run.specs.declared.Cause.TheVariants as cause
 use Rattle.hm_run.specs.declared.Outcome.{Outcome}

@@ -11,7 +11,8 @@ use Rattle.hm_tokens.specs.Tokens.{Tok, number}
 use Rattle.hm_tokens.proofs.Ranges.{normal_no_fewer}
 use Rattle.hm_text_rows.specs.Labels.{Reaches}
 use Rattle.hm_textv_rows.specs.Rows as vectors
-use Rattle.hm_text.specs.Tables.{HasText, HasTokens, IsRowAt, IsRowOf, IsTokenText, IsVectorText, Seen, label_of, target, width_of}
+use Rattle.hm_isa.specs.Code.{width_of}
+use Rattle.hm_text.specs.Tables.{HasText, HasTokens, IsRowAt, IsRowOf, IsTokenText, IsVectorText, Seen, label_of, target}
 use Rattle.hm_text.proofs.Apart.{apart}
 use Rattle.hm_text.proofs.Rows.{at_nearest, few_tokens}
 

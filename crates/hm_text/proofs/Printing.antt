@@ -22,7 +22,8 @@ use Rattle.hm_text32_rows.specs.Rows as wide_rows
 use Rattle.hm_text32_codes.proofs.Rows as wide_laws
 use Rattle.hm_textv_rows.specs.Rows as vectors
 use Rattle.hm_textv_codes.proofs.Rows as vector_laws
-use Rattle.hm_text.specs.Tables.{AreOfRow, HasTokens, has_label_by, printed_by, target_by, width_of}
+use Rattle.hm_isa.specs.Code.{width_of}
+use Rattle.hm_text.specs.Tables.{AreOfRow, HasTokens, has_label_by, printed_by, target_by}
 use Rattle.hm_text.specs.Texts.{HasWidth, IsTextOf}
 use Rattle.hm_text.proofs.Formed.{Formed, formed_text}
 use Rattle.hm_text.proofs.FormedNarrow.{formed_narrow}

@@ -27,7 +27,8 @@ use Rattle.hm_text32_codes.proofs.Rows as wide_laws
 use Rattle.hm_text32_rows.specs.Rows as wide_rows
 use Rattle.hm_text32_rows.specs.Targets as wide_targets
 use Rattle.hm_text.specs.Labels.{label_where}
-use Rattle.hm_text.specs.Tables.{AreOfRow, HasTokens, IsRowOf, has_label, has_label_by, label_of, printed_by, target, target_by, width_of}
+use Rattle.hm_isa.specs.Code.{width_of}
+use Rattle.hm_text.specs.Tables.{AreOfRow, HasTokens, IsRowOf, has_label, has_label_by, label_of, printed_by, target, target_by}
 
 -- A TARGET where there is a label
 word_below : (n : ℕ) → n % 2 ^ 32 < 2 ^ 32

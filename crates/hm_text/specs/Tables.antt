@@ -1,10 +1,9 @@
 -- The texts of all tables together: which row has a text, and what its label names.
-use Rattle.std.specs.Prelude.{◌≡◌, ◌⊎◌, ℕ, ◌*◌, Bool, false, List, Option, Some, None, length}
+use Rattle.std.specs.Prelude.{◌≡◌, ◌⊎◌, ℕ, Bool, false, List, Option, Some, None}
 use Rattle.hm_isa.specs.declared.Instr.{Instr}
 use Rattle.hm_isa.specs.declared.Instr.TheVariants.{Scalar, Branch, Vector}
 use Rattle.hm_isa.specs.declared.widths.ByWidth.{ByWidth}
 use Rattle.hm_isa.specs.declared.widths.ByWidth.TheVariants as by
-use Rattle.hm_isa.specs.Code.{halfwords}
 use Rattle.hm_isa.specs.Widths.{by_width}
 use Rattle.hm_tokens.specs.Lines.{IsLineOf, printed}
 use Rattle.hm_tokens.specs.Ranges.{normal}
@@ -90,10 +89,6 @@ pub record IsRowAt (text : List ℕ) (pc : ℕ) (a : ℕ) (i : Instr) : Type 0 w
 -- what a text shows of its row: how many bytes its code has, and its label
 abbrev pub Seen : Type 0
 Seen = ℕ × Option Tok
-
--- how many bytes the code of a row has
-abbrev pub width_of : Instr → ℕ
-width_of i = 2 * length (halfwords i)
 
 -- PRINTED
 -- the text of a row that stands at pc, by its table: of one with a label, with the address that this names

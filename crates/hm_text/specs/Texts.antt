@@ -5,7 +5,8 @@ use Rattle.hm_line.specs.declared.form.Form.TheVariants as forms
 use Rattle.hm_line.specs.Texts.{IsOfForm}
 use Rattle.hm_tokens.specs.Tokens.{Tok}
 use Rattle.hm_text_rows.specs.Labels.{NamesTarget}
-use Rattle.hm_text.specs.Tables.{HasText, label_of, target, width_of}
+use Rattle.hm_isa.specs.Code.{width_of}
+use Rattle.hm_text.specs.Tables.{HasText, label_of, target}
 
 -- the text is of the form, and has the tokens of a row, where t stands for its label
 pub record IsRowText (text : List ℕ) (i : Instr) (t : Tok) : Type 0 where

@@ -7,7 +7,8 @@ ghost use Rattle.hm_isa.specs.declared.Instr.{Instr};
 ghost use Rattle.hm_line.specs.declared.errors.TextErr.{TextErr};
 ghost use Rattle.hm_line.specs.Texts.{IsOfForm};
 ghost use Rattle.hm_text.specs.Refusals.{IsAtFirstWord, IsShapeRefused, IsTextRefused};
-ghost use Rattle.hm_text.specs.Tables.{printed_text, width_of};
+ghost use Rattle.hm_isa.specs.Code.{width_of};
+ghost use Rattle.hm_text.specs.Tables.{printed_text};
 ghost use Rattle.hm_text.specs.Texts.{HasWidth, IsOnlyShape, IsShape, IsTextOf};
 ghost use Rattle.hm_tokens.specs.Tokens.{tok};
 

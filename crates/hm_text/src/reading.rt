@@ -6,7 +6,8 @@ ghost use Rattle.hm_isa.specs.declared.widths.ByWidth.{ByWidth};
 ghost use Rattle.hm_isa.specs.declared.widths.NarrowRow.{NarrowRow};
 ghost use Rattle.hm_isa.specs.declared.widths.WideRow.{WideRow};
 ghost use Rattle.hm_isa.specs.Widths.{by_width};
-ghost use Rattle.hm_text.specs.Tables.{HasTokens, IsRowOf, Seen, label_of, width_of};
+ghost use Rattle.hm_isa.specs.Code.{width_of};
+ghost use Rattle.hm_text.specs.Tables.{HasTokens, IsRowOf, Seen, label_of};
 ghost use Rattle.hm_tokens.specs.Ranges.{normal};
 ghost use Rattle.hm_tokens.specs.Tokens.{Tok, tok};
 

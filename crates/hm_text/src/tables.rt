@@ -2,7 +2,8 @@
 
 ghost use Rattle.std.specs.Prelude.{◌≡◌, IfSome, Option, Some, option_map};
 ghost use Rattle.hm_isa.specs.declared.Instr.{Instr};
-ghost use Rattle.hm_text.specs.Tables.{HasText, IsRowAt, IsTokenText, IsVectorText, Seen, label_of, target, width_of};
+ghost use Rattle.hm_isa.specs.Code.{width_of};
+ghost use Rattle.hm_text.specs.Tables.{HasText, IsRowAt, IsTokenText, IsVectorText, Seen, label_of, target};
 ghost use Rattle.hm_text_rows.specs.Labels.{Reaches};
 ghost use Rattle.hm_tokens.specs.Tokens.{Tok, tok};
 

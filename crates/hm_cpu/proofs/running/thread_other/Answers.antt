@@ -4,7 +4,7 @@ use Rattle.hm_cpu.proofs.Keeping.{keeps_moves}
 use Rattle.hm_cpu.proofs.Nestings.{lifted, step_stays}
 use Rattle.hm_cpu.specs.Cpus.{stepped}
 use Rattle.hm_cpu.specs.declared.step_ends.LetterEnd.{LetterEnd}
-use Rattle.hm_order.specs.Turns.{Older}
+use Rattle.hm_order.specs.InFlight.{Older}
 use Rattle.hm_cpu.proofs.running.thread_other.Goals as goal
 
 pub returns-clause-value : goal.returns-clause-value

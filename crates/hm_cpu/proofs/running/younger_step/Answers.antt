@@ -1,7 +1,7 @@
 use Rattle.std.proofs.Common.{Ok, Err}
 use Rattle.hm_cpu.proofs.Keeping.{keeps_moves}
 use Rattle.hm_cpu.proofs.Nestings.{sound_under, step_stays, younger_steps}
-use Rattle.hm_order.specs.Turns.{Younger}
+use Rattle.hm_order.specs.InFlight.{Younger}
 use Rattle.hm_cpu.proofs.running.younger_step.Goals as goal
 
 pub returns-clause-value : goal.returns-clause-value

@@ -1,7 +1,7 @@
 use Rattle.std.proofs.Common.{◌+◌, ◌<◌, subst, arith}
 use Rattle.hm_codes.proofs.Unique.{unique}
 use Rattle.hm_isa.specs.declared.Instr.{Instr}
-use Rattle.hm_text.specs.Tables.{width_of}
+use Rattle.hm_isa.specs.Code.{width_of}
 use Rattle.hm_listing.proofs.lines.whole_at.Goals as goal
 
 pub returns-else-width-hi-clause-none : goal.returns-else-width-hi-clause-none

@@ -2,7 +2,8 @@ use Rattle.std.proofs.Common.{◌≡◌, List, Some, map, subst}
 use Rattle.std.specs.Prelude.{IfSome, option_map}
 use Rattle.hm_isa.specs.declared.Instr.{Instr}
 use Rattle.hm_tokens.specs.Tokens.{Tok, tok}
-use Rattle.hm_text.specs.Tables.{HasTokens, Seen, label_of, width_of}
+use Rattle.hm_isa.specs.Code.{width_of}
+use Rattle.hm_text.specs.Tables.{HasTokens, Seen, label_of}
 use Rattle.hm_text.proofs.InTables.{too_many_tokens}
 use Rattle.hm_text.proofs.reading.read_shape.Goals as goal
 
