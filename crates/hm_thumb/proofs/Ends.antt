@@ -67,8 +67,8 @@ module _ {E : Type 0} (R : Runner E) (s : Seen) where
   enough_here ended m a up fits is = enough_to ended m a a up is (omega arith) fits (omega (arith, most_is))
 
   -- by where the text begins: in flash; before SRAM or behind it, at a priority or not; or in SRAM
-  by_priority : IsEnded → (m a : ℕ) → most_text ≤ m → a < 2 ^ 32 → 0x100000 ≤ a → (a < 0x20000000) ⊎ (0x20040000 ≤ a) → (b : Bool) → has_width (device_word a) 1 ≡ b
-      → text R m a s ≡ text R most_text a s
+  by_priority : IsEnded → (m a : ℕ) → most_text ≤ m → a < 2 ^ 32 → 0x100000 ≤ a → (a < 0x20000000) ⊎ (0x20040000 ≤ a)
+      → (b : Bool) → has_width (device_word a) 1 ≡ b → text R m a s ≡ text R most_text a s
   by_priority ended m a up fits past outside false e = enough_here ended m a up fits (bad a past outside e)
   by_priority ended m a up fits past outside true e = at_priority (narrow a e)
     where
