@@ -1,5 +1,5 @@
 -- What a result tells of the refusal that stood before it.
-use Rattle.std.proofs.Common.{◌≡◌, ◌×◌, Option, Some, None, Result, Ok, refl}
+use Rattle.std.proofs.Common.{◌≡◌, Option, Some, None, Result, Ok, refl}
 use Rattle.hm_base.specs.Results.{unless}
 
 -- where the result is there, nothing stopped before it

@@ -1,5 +1,6 @@
 -- What an access that nothing stops tells, and that what stops a store does not depend on the memory.
-use Rattle.std.proofs.Common.{◌≡◌, ℕ, Bool, true, false, Option, Some, None, refl, ◌∙◌, ap, arith, nat_tests}
+use Rattle.std.proofs.Common.{◌≡◌, ℕ, Bool, true, false, Option, Some, None, refl, ◌∙◌, ap, arith}
+use Rattle.std.proofs.lemmas.Bool.Decides.{nat_tests}
 use Rattle.std.specs.Option.{option_or}
 use Rattle.hm_base.specs.declared.FaultKind.{FaultKind}
 use Rattle.hm_mem.specs.Devices.{device_word, in_devices}
