@@ -133,8 +133,8 @@ module _ (bounds : Bounds) where
       let one = then_ok (caused (asked (runner.in_machine around) (regs_of s) (seen_in s))) (answered cause_of s) t e in
       answered_grows s t one.0 one.2
 
-  broken_grows : (k : ℕ) (s t : State) → breakpoint (doing_in_machine around) k s ≡ Ok t → Grows Nothing s t
-  broken_grows k s t e = by_call (asks k) e
+  breakpoint_grows : (k : ℕ) (s t : State) → breakpoint (doing_in_machine around) k s ≡ Ok t → Grows Nothing s t
+  breakpoint_grows k s t e = by_call (asks k) e
     where
       by_call : (b : Bool) → cond b (served (doing_in_machine around) s) (Err (cause.Halt (Break k))) ≡ Ok t → Grows Nothing s t
       by_call true h = served_grows s t h
@@ -147,7 +147,7 @@ module _ (bounds : Bounds) where
   by_break : (i : Instr) (s t : State) (o : Option ℕ)
       → at_break (λ k. breakpoint (doing_in_machine around) k s) o (done_as cause.Stop (scalar_in_machine around i s)) ≡ Ok t
       → Grows Nothing s t
-  by_break i s t (Some k) e = broken_grows k s t e
+  by_break i s t (Some k) e = breakpoint_grows k s t e
   by_break i s t None e = went_grows i s t (scalar_in_machine around i s) refl e
 
   row_alone : (v : Vector) (s t : State) (r : Result Instr Fault) → r ≡ Ok (instr.Vector v) → vector_of r ≡ None → Grows Nothing s t

@@ -258,8 +258,8 @@ answered_leaves s (Writes xs) = by_room (nat_lt most_output (length s.rest.outpu
     by_room true = tt
     by_room false = printed_leaves xs s
 
-broken_leaves : (x : Around) (k : ℕ) (s : State) → IfOk (breakpoint (doing_in_machine x) k s) (Kept s)
-broken_leaves x k s = by_call (asks k)
+breakpoint_leaves : (x : Around) (k : ℕ) (s : State) → IfOk (breakpoint (doing_in_machine x) k s) (Kept s)
+breakpoint_leaves x k s = by_call (asks k)
   where
     by_call : (b : Bool) → IfOk (cond b (served (doing_in_machine x) s) (Err (cause.Halt (Break k)))) (Kept s)
     by_call true = then_if (Kept s) (caused (asked (runner.in_machine x) (regs_of s) (seen_in s))) (answered cause_of s) (answered_leaves s)
@@ -271,7 +271,7 @@ done_leaves s (Err f) h = tt
 
 by_break : (x : Around) (i : Instr) (s : State) (o : Option ℕ)
     → IfOk (at_break (λ k. breakpoint (doing_in_machine x) k s) o (done_as cause.Stop (scalar_in_machine x i s))) (Kept s)
-by_break x i s (Some k) = broken_leaves x k s
+by_break x i s (Some k) = breakpoint_leaves x k s
 by_break x i s None = done_leaves s (scalar_in_machine x i s) (scalar_leaves x i s)
 
 row_none : {P : Type 0} (v : Vector) → vector_of (Ok (instr.Vector v)) ≡ None → P

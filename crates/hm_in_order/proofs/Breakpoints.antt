@@ -58,10 +58,10 @@ served_alike f g (Err e) (Ok y) h (inr l) = absurd l
 served_alike f g (Err e) (Err d) h (inl l) = inl l
 served_alike f g (Err e) (Err d) h (inr l) = inr (ap cause.Stop l)
 
-broken_alike : (b : Bool) (reason : Reason) (r : Result State Cause) (q : Result State WholeStop) → TaintedOrAlike r q
+breakpoint_alike : (b : Bool) (reason : Reason) (r : Result State Cause) (q : Result State WholeStop) → TaintedOrAlike r q
     → TaintedOrAlike (cond b r (Err (cause.Halt reason))) (cond b q (Err (why.Halt reason)))
-broken_alike true reason r q h = h
-broken_alike false reason r q h = inr refl
+breakpoint_alike true reason r q h = h
+breakpoint_alike false reason r q h = inr refl
 
 module _ (s t : State) (live : Live view s t) (at : s.pc ≡ t.pc) where
   answered_alike : (x : Asked) → AlikeBoth (answered cause_of s x) (answered itself t x)
@@ -79,7 +79,7 @@ module _ (s t : State) (live : Live view s t) (at : s.pc ≡ t.pc) where
 
   pub asked_alike : (bounds : Bounds) (k : ℕ) → TaintedOrAlike (breakpoint (doing_in_machine (thread_under bounds)) k s) (breakpoint doing_alone k t)
   asked_alike bounds k =
-      broken_alike (asks k) (Break k) _ _
+      breakpoint_alike (asks k) (Break k) _ _
       (served_alike (answered cause_of s) (answered itself t) _ _ answered_alike
       (subst (λ (r : Regs). ReadsAlike (asked (runner.in_machine (thread_under bounds)) (regs_of s) (seen_in s)) (asked runner.alone r (seen_in t)))
       (same_regs s t live at)
@@ -112,8 +112,8 @@ module _ (s : State) (clean : NoTaint s) where
   either_leaves true reason r h = h
   either_leaves false reason r h = tt
 
-  pub broken_leaves : (k : ℕ) → Leaves (breakpoint doing_alone k s)
-  broken_leaves k = either_leaves (asks k) (Break k) _ (served_leaves _)
+  pub breakpoint_leaves : (k : ℕ) → Leaves (breakpoint doing_alone k s)
+  breakpoint_leaves k = either_leaves (asks k) (Break k) _ (served_leaves _)
 
 -- WITHOUT TAINT it comes in the machine to what it comes to alone
 pub break_same : (f : ℕ → Result State Cause) (g : ℕ → Result State WholeStop) (o : Option ℕ) (r : Result State Cause) (q : Result State WholeStop)
@@ -138,8 +138,9 @@ either_same : (b : Bool) (reason : Reason) (r : Result State Cause) (q : Result 
 either_same true reason r q h = h
 either_same false reason r q h = refl
 
-pub broken_same : (bounds : Bounds) (k : ℕ) (s : State) → NoTaint s → breakpoint (doing_in_machine (thread_under bounds)) k s ≡ with_cause (breakpoint doing_alone k s)
-broken_same bounds k s clean =
+pub breakpoint_same : (bounds : Bounds) (k : ℕ) (s : State) → NoTaint s
+    → breakpoint (doing_in_machine (thread_under bounds)) k s ≡ with_cause (breakpoint doing_alone k s)
+breakpoint_same bounds k s clean =
     either_same (asks k) (Break k) _ _
     (ap (λ q. then (caused q) (answered cause_of s)) (asked-same bounds (seen_in s) clean (regs_of s))
     ∙ served_same s (asked runner.alone (regs_of s) (seen_in s)))

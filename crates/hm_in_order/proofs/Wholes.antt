@@ -29,7 +29,7 @@ use Rattle.hm_mem.specs.Seen.{as_stops}
 use Rattle.hm_whole.specs.Watched.{GoesClean, In, Beside}
 use Rattle.hm_whole.specs.Whole.{Went, scalar_alone}
 use Rattle.hm_whole.proofs.Agreement.{whole-clean, whole-same}
-use Rattle.hm_in_order.proofs.Breakpoints.{Leaves, break_leaves, break_same, broken_leaves, broken_same}
+use Rattle.hm_in_order.proofs.Breakpoints.{Leaves, break_leaves, break_same, breakpoint_leaves, breakpoint_same}
 use Rattle.hm_in_order.proofs.Vectors.{beat_pc, context_clean, four_are, not_refused, retire, row_beats, row_leaves}
 
 -- between two instructions: n are done, in k steps
@@ -56,7 +56,7 @@ done_leaves (Ok x) h = λ a. h (In (Byte a))
 done_leaves (Err f) h = tt
 
 other_leaves : (i : Instr) (s : State) → NoTaint s → Leaves (other_row doing_alone i s)
-other_leaves i s h = break_leaves _ (break_of i) (done_as Faults (scalar_alone i s)) (broken_leaves s h)
+other_leaves i s h = break_leaves _ (break_of i) (done_as Faults (scalar_alone i s)) (breakpoint_leaves s h)
     (done_leaves (scalar_alone i s) (whole-clean i s (watched_clean s h)))
 
 module _ (around : Around) (thread : around.actor ≡ Thread) where
@@ -81,7 +81,7 @@ module _ (x : Around) (thread : x.actor ≡ Thread) where
   same_is : (i : Instr) (s : State) → NoTaint s → other_row (doing_in_machine x) i s ≡ with_cause (other_row doing_alone i s)
   same_is i s clean =
       ap (λ (y : Around). other_row (doing_in_machine y) i s) (under_thread x thread)
-      ∙ break_same _ _ (break_of i) _ _ (λ k. broken_same x.bounds k s clean)
+      ∙ break_same _ _ (break_of i) _ _ (λ k. breakpoint_same x.bounds k s clean)
       (ap (done_as cause.Stop) (whole-same x.bounds i s (watched_clean s clean)) ∙ done_same (scalar_alone i s))
 
   other_is : (r : Result Instr Fault) (s : State) → vector_of r ≡ None → NoTaint s → other_here x r s ≡ with_cause (whole_here r s)
