@@ -251,7 +251,8 @@ module _ (t : ElementType) (listing : Listing) where
       (to_state t w q m s.rest.around s.rest.output in_regs)
 
   -- an instruction that goes on to the next
-  pub went_on : (i : Instr) (v w : View) (s : State) (r' : Regs) → Shows t v s → listing v.pc ≡ Ok i → program.whole i s ≡ program.done_as Faults (scalar_alone i s)
+  pub went_on : (i : Instr) (v w : View) (s : State) (r' : Regs) → Shows t v s → listing v.pc ≡ Ok i
+      → program.whole i s ≡ program.done_as Faults (scalar_alone i s)
       → runs i (regs_of s) ≡ true → instr_does i (cond (needs_context i) (with_context (regs_of s)) (regs_of s)) ≡ goes r' → InRegs t w r' (seen_in s)
       → w.pc + width_of i < 2 ^ 32
       → Reaches (program.alone listing) (Shows t) 1 s (record w { pc = w.pc + width_of i })
