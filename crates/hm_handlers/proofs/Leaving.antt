@@ -2,7 +2,6 @@
 use Rattle.std.proofs.Common.{◌≡◌, ◌≢◌, ℕ, zero, suc, ◌==◌, ◌+◌, ap, refl, sym, ◌∙◌, subst, Bool, true, false, cond, not, ◌&&◌, ◌||◌, nat_eq, nat_lt, eqb-true}
 use Rattle.std.proofs.Common.{List, length, Option, Some, None, Result, Ok, Err, arith}
 use Rattle.std.specs.Prelude.{IfOk, is_none}
-use Rattle.std.specs.Option.{option_or}
 use Rattle.hm_base.specs.declared.Fault.{Fault}
 use Rattle.hm_base.specs.declared.FaultKind.TheVariants.{InvState}
 use Rattle.hm_base.specs.declared.Place.TheVariants.{Ltp}
@@ -18,6 +17,7 @@ use Rattle.hm_handlers.proofs.Priorities.{step-levels}
 use Rattle.hm_handlers.proofs.KeptSteps.{settled-sound, step-number, step-sound, step-main}
 use Rattle.hm_handlers.specs.Blocks.{IsBlockByte}
 use Rattle.hm_handlers.specs.Levels.{HasLevels}
+use Rattle.hm_mem.proofs.Stops.{neither_stops}
 use Rattle.hm_mem.specs.Memory.{Around}
 use Rattle.hm_order.specs.Beats.{then}
 use Rattle.hm_order.specs.Machine.{Config, End, begin, did, done, older, older_of, settle, younger, younger_of}
@@ -124,11 +124,6 @@ both : (a b : Bool) → (a && b) ≡ true → (a ≡ true) × (b ≡ true)
 both true b e = (refl, e)
 both false b e = absurd cc
 
--- the last of the rules that a younger step breaks
-last_rule : (r q : Option Rule) → option_or r q ≡ None → q ≡ None
-last_rule (Some b) q h = absurd cc
-last_rule None q h = h
-
 ready_is : (b : Bool) → cond b None (Some rule.YoungerFault) ≡ None → b ≡ true
 ready_is true h = refl
 ready_is false h = absurd cc
@@ -206,7 +201,7 @@ module _ (listing : Listing) (x : Around) where
   pub younger_leaves : (c : Config State) → FitsInside c → IfOk (younger machine c) (RowLeaves c)
   younger_leaves c inside = younger_by (machine.rule (machine.code (machine.rows.view.pc c.state)) (machine.code (machine.rows.view.pc c.state + 4)) c)
       (machine.code (machine.rows.view.pc c.state + 4)) c inside
-      (λ h. last_rule _ (refusal_rule (machine.code (machine.rows.view.pc c.state + 4)) c.state) h)
+      (λ h. (neither_stops _ (refusal_rule (machine.code (machine.rows.view.pc c.state + 4)) c.state) h).1)
 
 -- AN INSTRUCTION that is no vector row
 goes_leave : (s : State) (r : Regs) → r.ipsr ≡ s.rest.ipsr → r.it ≡ s.rest.it → r.spsel ≡ s.rest.spsel → (q : Result Stepped Stop)

@@ -2,7 +2,6 @@
 use Rattle.std.proofs.Common.{◌≡◌, ℕ, ◌+◌, ◌%◌, ◌^◌, ◌<◌, ◌≤◌, Bool, true, false, cond, eqb-true, nat_lt, List, [], ◌∷◌, ◌++◌, map, Option, Some, None, Ok, inl}
 use Rattle.std.proofs.Common.{inr, refl, sym, ◌∙◌, ap, subst, arith, add-zero}
 use Rattle.std.proofs.lemmas.Bool.Decides.{nat_tests}
-use Rattle.hm_base.specs.declared.FaultKind.{FaultKind}
 use Rattle.hm_base.specs.declared.Place.{Place}
 use Rattle.hm_base.specs.declared.Stop.{Stop}
 use Rattle.hm_beat.specs.Laws.{Taints, WritesTaint}
@@ -11,8 +10,9 @@ use Rattle.hm_beat.specs.Rows.{Tree, always}
 use Rattle.hm_beat.specs.Touches.{span_bytes}
 use Rattle.hm_beat.specs.Trees.{Check, Leaf, action, checked, finish, reach, written}
 use Rattle.hm_isa.specs.declared.Vector.{Vector}
+use Rattle.hm_mem.proofs.Stops.{kept_none, no_fault}
 use Rattle.hm_mem.specs.Memory.{Around, thread_under, Bounds}
-use Rattle.hm_mem.specs.Seen.{fault_kind, is_denied, lies_in_sram, stop_after}
+use Rattle.hm_mem.specs.Seen.{fault_kind, is_denied, lies_in_sram}
 use Rattle.hm_mem.specs.declared.Access.TheVariants.{Vector as VectorAccess}
 use Rattle.hm_moves.proofs.Accesses.{in_sram}
 use Rattle.hm_moves.proofs.Trees.{leaf_at, reach_moves}
@@ -90,12 +90,6 @@ module _ (frame : ℕ) (bounds : Bounds) where
   abbrev May : ℕ → Type 0
   May = Allowed frame bounds
 
-  -- a store that has no sure stop
-  free_store : (o : Option FaultKind) (denied : Bool) (a : ℕ) → stop_after o denied true a ≡ None → (o ≡ None) × (denied ≡ false)
-  free_store (Some k) denied a h = absurd cc
-  free_store None true a h = absurd cc
-  free_store None false a h = (refl, refl)
-
   sized : (z : Size) → IsLen (byte_count z)
   sized size.Byte = inl refl
   sized size.Half = inr (inl refl)
@@ -108,14 +102,15 @@ module _ (frame : ℕ) (bounds : Bounds) where
   stored_at : (z : Size) (e : Element) → sure_stop x true (byte_count z) e.addr ≡ None → WritesAt May (store_bytes true e 0 (span_bytes e.addr (byte_count z)))
   stored_at z e free = by_size z refl
     where
-      both : (fault_kind false VectorAccess true (byte_count z) e.addr ≡ None) × (is_denied bounds frame (byte_count z) e.addr ≡ false)
-      both = free_store (fault_kind false VectorAccess true (byte_count z) e.addr) (is_denied bounds frame (byte_count z) e.addr) e.addr free
-
       lies : lies_in_sram (byte_count z) e.addr ≡ true
-      lies = in_sram false (byte_count z) e.addr both.0
+      lies = in_sram false (byte_count z) e.addr
+          (no_fault (fault_kind false VectorAccess true (byte_count z) e.addr) (is_denied bounds frame (byte_count z) e.addr) true e.addr free)
+
+      allowed : is_denied bounds frame (byte_count z) e.addr ≡ false
+      allowed = kept_none (fault_kind false VectorAccess true (byte_count z) e.addr) (is_denied bounds frame (byte_count z) e.addr) e.addr free
 
       at : (k : ℕ) → k < byte_count z → May (e.addr + k)
-      at k l = all_allowed frame bounds (byte_count z) e.addr (sized z) lies both.1 k l
+      at k l = all_allowed frame bounds (byte_count z) e.addr (sized z) lies allowed k l
 
       first : 0 < byte_count z → May e.addr
       first l = subst May (add-zero e.addr) (at 0 l)

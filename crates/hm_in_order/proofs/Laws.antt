@@ -2,7 +2,7 @@
 use Rattle.std.proofs.Common.{◌≡◌, ℕ, zero, suc, ◌<◌, ◌≤◌, arith, ◌&&◌, ◌||◌, ap, refl, sym, ◌∙◌, subst, Bool, true, false, not, ltb, nat_lt, cond, Option}
 use Rattle.std.proofs.Common.{Some, None, Result, Ok, Err, inl, inr, ⊎_elim}
 use Rattle.std.proofs.lemmas.Bool.Decides.{nat_tests}
-use Rattle.std.specs.Option.{is_none, option_or}
+use Rattle.std.specs.Option.{is_none}
 use Rattle.std.specs.Prelude.{option_map}
 use Rattle.hm_base.specs.declared.Fault.{Fault}
 use Rattle.hm_base.specs.declared.Place.{Place}
@@ -13,6 +13,7 @@ use Rattle.hm_codes.specs.Listing.{Listing}
 use Rattle.hm_isa.specs.declared.Instr.{Instr}
 use Rattle.hm_isa.specs.declared.Instr.TheVariants as instr
 use Rattle.hm_isa.specs.declared.Vector.{Vector}
+use Rattle.hm_mem.proofs.Stops.{neither_stops}
 use Rattle.hm_mem.specs.Memory.{Around, thread_under}
 use Rattle.hm_mem.specs.declared.Actor.TheVariants.{Thread}
 use Rattle.hm_order.specs.Beats.{ActionLaws, AgreeOn, Alike, Apart, BeatLaws, Live, AlikeAs, Same, SameBeat, SameTouch, StopsBy, beats, then}
@@ -292,10 +293,6 @@ module _ (x : Around) (thread : x.actor ≡ Thread) where
       (apart_lifted (vector_tree v x k) (vector_tree w x c.b) c.state
       (left_apart (vector_tree v) (vector_tree w) _ _ (row_laws v) (row_laws w) x c.a c.b c.state none k low high)))
 
-  no_rule : (o r : Option Rule) → option_or o r ≡ None → (o ≡ None) × (r ≡ None)
-  no_rule (Some y) r e = let no : Some y ≡ None = e in absurd cc
-  no_rule None r e = (refl, e)
-
   no_clash : (o : Option Clash) → option_map rule_of_clash o ≡ None → o ≡ None
   no_clash (Some y) e = let no : Some (rule_of_clash y) ≡ None = e in absurd cc
   no_clash None e = refl
@@ -313,7 +310,7 @@ module _ (x : Around) (thread : x.actor ≡ Thread) where
   lawful listing (Some v) None c e = let no : Some rule.NotVector ≡ None = e in absurd cc
   lawful listing (Some v) (Some w) c e =
       let clash = clash_with (vector_tree v x) c.a (vector_tree w x c.b) c.state in
-      let free = no_rule (first_rule (Some (vector_tree v x)) (Some (vector_tree w x)) c.a c.b c.state) (refusal_rule (Some w) c.state) e in
+      let free = neither_stops (first_rule (Some (vector_tree v x)) (Some (vector_tree w x)) c.a c.b c.state) (refusal_rule (Some w) c.state) e in
       let time = in_time (is_too_early c.a c.b) (option_map rule_of_clash clash) free.0 in
       let late = late_of c time.0 in
       record {
