@@ -7,13 +7,14 @@ use Rattle.std.proofs.lemmas.Bool.{leb-true, le-leb, eqb-true, eq-eqb, or_cases,
 use Rattle.hm_base.specs.Image.{Segment, with_segment, flash_size, flat, IsPlaced, IsApart, IsImage}
 use Rattle.hm_base.specs.declared.errors.ImageErr.{ImageErr}
 use Rattle.hm_base.proofs.Images.{IsImage-with_segment}
+use Rattle.hm_base.proofs.Results.{unless_ok}
 use Rattle.hm_text_base.specs.Reading.{◌>>=◌}
 use Rattle.hm_text_base.proofs.Steps.{bind_ok, ok_is}
 use Rattle.hm_elf.specs.declared.reading.ProgramHeader.{ProgramHeader}
 use Rattle.hm_elf.specs.Elf.{half, word, begins_as_elf, header_size, entry_size, most_headers, class_of, order_of, kind_of, machine_of, table_start}
 use Rattle.hm_elf.specs.Elf.{entry_size_of, header_count, IsHeader, headers_in, headers_of, loads, loading, loaded, IsLoaded, with_segments, IsElf, IsFlat}
 use Rattle.hm_elf.specs.Elf.{IsImageFile}
-use Rattle.hm_elf.specs.ReadImage.{first_failing, flat_in, header_checks, size_checks, place_in, load_in, loads_in, elf_in, image_in, Gives}
+use Rattle.hm_elf.specs.ReadImage.{first_failing, flat_checks, flat_in, header_checks, size_checks, place_in, load_in, loads_in, elf_in, image_in, Gives}
 use Rattle.hm_base.specs.Results.{unless}
 use Rattle.hm_elf.proofs.Placing.{placed, placed_found, image_parts, IsImage-before}
 use Rattle.hm_elf.proofs.LoadSteps.{skipped, to_place}
@@ -26,10 +27,6 @@ passing false d o e = absurd cc
 
 passed : (b : Bool) (d : ImageErr) (o : Option ImageErr) → b ≡ true → o ≡ None → cond b o (Some d) ≡ None
 passed b d o e f = rw e f
-
-unless_ok : {Y : Type 0} (o : Option ImageErr) (r : Result Y ImageErr) (y : Y) → unless o r ≡ Ok y → (o ≡ None) × (r ≡ Ok y)
-unless_ok None r y e = (refl, e)
-unless_ok (Some d) r y e = absurd cc
 
 -- ---- the file header
 
@@ -185,7 +182,7 @@ elf_again bytes image f =
 flat_found : (bytes : List ℕ) (image : List Segment) → flat_in bytes ≡ Ok image → IsFlat bytes image
 unfolding flat_in
 flat_found bytes image e =
-    let u = unless_ok _ (Ok (flat bytes)) image e in
+    let u = unless_ok (first_failing (flat_checks bytes)) (Ok (flat bytes)) image e in
     let a = passing (leb 8 (length bytes)) _ _ u.0 in
     let b = passing (leb (length bytes) flash_size) _ _ a.1 in
     record { long = leb-true _ _ a.0; short = leb-true _ _ b.0; is_flat = sym (ok_is (flat bytes) image u.1) }
