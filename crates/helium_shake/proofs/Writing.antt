@@ -1,7 +1,7 @@
 -- Files that are written one after another, and what is printed behind them.
 use Rattle.std.proofs.Common.{◌≡◌, List, [], ◌∷◌, ℕ, zero, suc, ◌+◌, ◌<◌, ◌≤◌, arith, drop, length, slice_index_or, map, subst, Option, Some, None, Result, Ok}
 use Rattle.std.proofs.Common.{Err, refl, sym, ap, ◌∙◌, inl, inr}
-use Rattle.std.proofs.lemmas.List.{append-nil}
+use Rattle.std.proofs.lemmas.List.{append-nil, drop_all}
 use Rattle.std.specs.FinMap.{insert}
 use Rattle.hm_commands.proofs.Calling.{fault_before, made_after, memory_before}
 use Rattle.hm_commands.specs.Calls.{MakesCalls, answer_way, to_end, to_fault, to_memory, way_of, with_calls}
@@ -64,14 +64,8 @@ left_is schedule files i w h is =
     ap (map (file_of schedule)) (left_at files i w h ∙ ap (λ (n : ℕ). slice_index_or files i w ∷ drop n files) one_more
     ∙ ap (λ (x : Written). x ∷ drop (i + 1) files) (sym is))
 
-none_left : (files : List Written) (i : ℕ) → length files ≤ i → drop i files ≡ []
-none_left [] zero h = refl
-none_left [] (suc i) h = refl
-none_left (w ∷ ws) zero h = absurd (omega arith)
-none_left (w ∷ ws) (suc i) h = none_left ws i (omega arith)
-
 pub left_none : (schedule : List ℕ) (files : List Written) (i : ℕ) → length files ≤ i → map (file_of schedule) (drop i files) ≡ []
-left_none schedule files i h = ap (map (file_of schedule)) (none_left files i h)
+left_none schedule files i h = ap (map (file_of schedule)) (drop_all i files h)
 
 -- what is found ends by a status of an effect that was done
 pub complete : (files : List Written) → IsComplete (status_for files)

@@ -19,11 +19,6 @@ pub line_ended : (text front rest : List ℕ) → (front, rest) ≡ span 10 text
 line_ended text front [] e some = absurd (omega arith)
 line_ended text front (b ∷ rest) e some = rw (lines_span text, ← e, take_all (length (b ∷ rest) - 1) rest (omega arith)) refl
 
--- no byte is left
-pub none_left : (text : List ℕ) → length text ≡ 0 → text ≡ []
-none_left [] e = refl
-none_left (b ∷ bs) e = absurd (omega arith)
-
 pub count_line : (ls : List (List ℕ)) (l rest : List ℕ) → lines_in (l ∷ ls, rest) ≡ lines_in (ls, rest) + 1
 count_line ls l [] = omega arith
 count_line ls l (b ∷ bs) = omega arith

@@ -3,7 +3,7 @@ use Rattle.std.proofs.Common.{◌≡◌, ℕ, zero, suc, ◌+◌, ◌*◌, ◌/�
 use Rattle.std.proofs.Common.{sym, ap, subst, ◌∙◌, arith, append_assoc, add-one, length-append}
 use Rattle.std.specs.List.{AllByRecursion}
 use Rattle.std.proofs.lemmas.Bool.{lt-ltb}
-use Rattle.std.proofs.lemmas.List.{take_at, drop_at, append-nil}
+use Rattle.std.proofs.lemmas.List.{take_at, drop_all, drop_at, append-nil}
 use Rattle.std.proofs.lemmas.Nat.{from_le_bytes-to_le_bytes_2, from_le_bytes-to_le_bytes_4}
 use Rattle.hm_base.specs.Image.{Segment, segment, segment_at, IsPlaced, IsImage}
 use Rattle.hm_base.proofs.Images.{placed_below}
@@ -191,16 +191,10 @@ bytes_step out k address bytes image whole l is so_far =
     = next_segment image k l ∙ ap (λ (s : Segment). s ∷ drop (suc k) image) is ∙ ap (λ (n : ℕ). segment address bytes ∷ drop n image) (sym (add-one k)) in
     append_assoc out bytes (all_bytes (drop (k + 1) image)) ∙ sym (ap (λ (ss : List Segment). out ++ all_bytes ss) next) ∙ so_far
 
-none_left : (image : List Segment) (k : ℕ) → length image ≤ k → drop k image ≡ []
-none_left [] zero l = refl
-none_left [] (suc k) l = refl
-none_left (s ∷ ss) zero l = absurd (omega arith)
-none_left (s ∷ ss) (suc k) l = none_left ss k (omega arith)
-
 pub headers_done : (out : List ℕ) (offset k : ℕ) (image : List Segment) (whole : List ℕ) → length image ≤ k
     → out ++ program_headers offset (drop k image) ≡ whole → out ≡ whole
-headers_done out offset k image whole l so_far = sym (append-nil out) ∙ sym (ap (λ (ss : List Segment). out ++ program_headers offset ss) (none_left image k l))
+headers_done out offset k image whole l so_far = sym (append-nil out) ∙ sym (ap (λ (ss : List Segment). out ++ program_headers offset ss) (drop_all k image l))
     ∙ so_far
 
 pub bytes_done : (out : List ℕ) (k : ℕ) (image : List Segment) (whole : List ℕ) → length image ≤ k → out ++ all_bytes (drop k image) ≡ whole → out ≡ whole
-bytes_done out k image whole l so_far = sym (append-nil out) ∙ sym (ap (λ (ss : List Segment). out ++ all_bytes ss) (none_left image k l)) ∙ so_far
+bytes_done out k image whole l so_far = sym (append-nil out) ∙ sym (ap (λ (ss : List Segment). out ++ all_bytes ss) (drop_all k image l)) ∙ so_far

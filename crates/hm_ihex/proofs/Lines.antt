@@ -1,16 +1,12 @@
 -- The first line of a text, and the lines behind it.
 use Rattle.std.proofs.Common.{◌≡◌, ℕ, ◌+◌, ◌-◌, ◌<◌, ◌≤◌, List, [], ◌∷◌, ◌++◌, append-nil, drop, length, take, Ok, Err, refl, sym, ap, ◌∙◌, arith}
-use Rattle.std.proofs.lemmas.List.{take_all}
+use Rattle.std.proofs.lemmas.List.{nil_from_length, take_all}
 use Rattle.hm_base.specs.declared.errors.ImageErr.TheVariants as refusals
 use Rattle.hm_text_base.proofs.LineLaws.{lines_from, lines_span, some_lines}
 use Rattle.hm_text_base.proofs.SpanLaws.{span_parts}
 use Rattle.hm_text_base.specs.Spans.{Lines, lines_of, span}
 use Rattle.hm_ihex.specs.Cells.{Cells, image_of}
 use Rattle.hm_ihex.specs.Files.{all_lines, ended_by, without_return}
-
-pub none_left : (text : List ℕ) → length text ≡ 0 → text ≡ []
-none_left [] e = refl
-none_left (b ∷ bs) e = absurd (omega arith)
 
 -- no lines in no text
 pub no_lines : all_lines (lines_of []) ≡ []
@@ -53,4 +49,4 @@ pub line_follows : (k : ℕ) (cells : Cells) (text : List ℕ) → 0 < length te
 line_follows k cells text some = followed k cells (lines_of text) (some_lines text some)
 
 pub nothing_follows : (k : ℕ) (cells : Cells) (text : List ℕ) → length text ≡ 0 → ended_by k cells (all_lines (lines_of text)) ≡ Ok (image_of cells)
-nothing_follows k cells text none = ap (λ (t : List ℕ). ended_by k cells (all_lines (lines_of t))) (none_left text none) ∙ ap (ended_by k cells) no_lines
+nothing_follows k cells text none = ap (λ (t : List ℕ). ended_by k cells (all_lines (lines_of t))) (nil_from_length text none) ∙ ap (ended_by k cells) no_lines

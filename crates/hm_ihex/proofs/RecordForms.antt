@@ -4,11 +4,10 @@ use Rattle.std.proofs.Common.{take, Option, Some, None, option_map, refl, sym, a
 use Rattle.std.specs.Prelude.{◌&&◌, option_and_then}
 use Rattle.std.proofs.lemmas.Bool.{and_parts, cases_Bool, eqb-true, eq-eqb, leb-true, le-leb}
 use Rattle.std.proofs.lemmas.Bool.Decides.{nat_tests}
-use Rattle.std.proofs.lemmas.List.{drop_all, drop_more, take-append-drop}
+use Rattle.std.proofs.lemmas.List.{drop_all, drop_more, nil_from_length, take-append-drop}
 use Rattle.hm_ihex.specs.HexFile.{AreDigits, IsDigit, IsRecord, IsRecordLine, Says}
 use Rattle.hm_ihex.specs.Records.{Record, byte_in, bytes_in, data_at, digit_in, end, line_in, new_base, pair_of, record_in, record_of, start, sum_of}
 use Rattle.hm_ihex.proofs.Again.{bytes_nil, bytes_next, record_is}
-use Rattle.hm_ihex.proofs.Lines.{none_left}
 
 -- ---- digits
 
@@ -110,7 +109,7 @@ told_data kind offset content said is e =
 told_end : (kind offset : ℕ) (content : List ℕ) (said : Record) → kind ≡ 1 → Told kind offset content said
 told_end kind offset content said is e =
     let c = chosen (eqb (length content) 0) end said (ap (λ (k : ℕ). record_of k offset content) (sym is) ∙ e) in
-    subst (Says kind offset content) c.1 (is, none_left content (eqb-true (length content) 0 c.0))
+    subst (Says kind offset content) c.1 (is, nil_from_length content (eqb-true (length content) 0 c.0))
 
 told_segment : (kind offset : ℕ) (content : List ℕ) (said : Record) → kind ≡ 2 → Told kind offset content said
 told_segment kind offset content said is e =

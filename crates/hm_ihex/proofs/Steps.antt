@@ -1,6 +1,7 @@
 -- One line of a file, and the lines behind it.
 use Rattle.std.proofs.Common.{◌≡◌, ℕ, ◌+◌, List, ◌∷◌, length, Result, Ok, Err, Some, refl, sym, ap, subst, ◌∙◌}
 use Rattle.std.specs.Prelude.{option_and_then}
+use Rattle.std.proofs.lemmas.List.{nil_from_length}
 use Rattle.hm_base.specs.declared.errors.ImageErr.{ImageErr}
 use Rattle.hm_base.specs.declared.errors.ImageErr.TheVariants as refusals
 use Rattle.hm_text_base.specs.Spans.{lines_of}
@@ -9,7 +10,7 @@ use Rattle.hm_ihex.specs.Meant.{IsNext}
 use Rattle.hm_ihex.specs.Records.{Record, bytes_in, line_in, record_in}
 use Rattle.hm_ihex.specs.declared.reading.Next.{Next}
 use Rattle.hm_ihex.specs.declared.reading.Next.TheVariants.{End, More}
-use Rattle.hm_ihex.proofs.Lines.{no_lines, none_left}
+use Rattle.hm_ihex.proofs.Lines.{no_lines}
 
 pub step : (k : ℕ) (r : Reading) (l : List ℕ) (ls : List (List ℕ)) → lines_in k r (l ∷ ls) ≡ by_record k r ls (λ q. lines_in (k + 1) q ls) (line_in l)
 unfolding lines_in
@@ -35,7 +36,7 @@ by_err k old new l ls e result h is = fails_by k old new l ls e (subst (λ (r : 
 -- no line is left, and none was the end record
 pub by_none : (k : ℕ) (r : Reading) (text : List ℕ) → length text ≡ 0 → lines_in k r (all_lines (lines_of text)) ≡ Err (refusals.Hex k)
 unfolding lines_in
-by_none k r text none = ap (λ (t : List ℕ). lines_in k r (all_lines (lines_of t))) (none_left text none) ∙ ap (lines_in k r) no_lines
+by_none k r text none = ap (λ (t : List ℕ). lines_in k r (all_lines (lines_of t))) (nil_from_length text none) ∙ ap (lines_in k r) no_lines
 
 -- the record of a line, by its digits and their bytes
 pub line_of : (line digits bytes : List ℕ) (said : Record) → line ≡ 58 ∷ digits → Some bytes ≡ bytes_in digits → Some said ≡ record_in bytes

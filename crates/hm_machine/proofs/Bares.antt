@@ -2,6 +2,7 @@
 use Rattle.std.proofs.Common.{◌≡◌, ℕ, ◌<◌, ◌≤◌, arith, ap, refl, sym, ◌∙◌, subst, false, List, [], ◌∷◌, ◌++◌, length, map, Option}
 use Rattle.std.proofs.Common.{Some, None, inl, inr}
 use Rattle.std.specs.Option.{is_some}
+use Rattle.std.proofs.lemmas.List.{drop_all}
 use Rattle.hm_base.specs.Image.{Segment, flash_byte}
 use Rattle.hm_codes.proofs.Exists.{exists}
 use Rattle.hm_codes.specs.Listing.{Listing, IsListing}
@@ -15,7 +16,6 @@ use Rattle.hm_handlers.specs.Runs.{Run, begin, tick, tick_of}
 use Rattle.hm_handlers.specs.Sound.{IsSound}
 use Rattle.hm_plain.proofs.Ends.{all_ended, run_past}
 use Rattle.hm_machine.specs.Bares.{IsBare, ShowsGiven}
-use Rattle.hm_machine.proofs.Cursors.{none_left}
 use Rattle.hm_machine.specs.Machines.{GoesOn, StandsIn, left_at, left_in}
 use Rattle.hm_machine.specs.declared.cursor.Cursor.{Cursor}
 use Rattle.hm_machine.specs.Shown.{Shown, Shows, run_of, run_with}
@@ -101,7 +101,7 @@ stands_there lines c (inr h) some = let none : length lines ≡ 0 = ap length h 
 pub no_left : (lines : List TickLine) (c : Cursor) → lines ≡ [] → left_at lines c ≡ []
 no_left lines c empty =
     let size : length lines ≡ 0 = ap length empty in
-    ap (λ (l : List TickLine). left_in l c.used) (none_left lines c.line (omega arith))
+    ap (λ (l : List TickLine). left_in l c.used) (drop_all c.line lines (omega arith))
 
 -- ONE TICK of a machine that goes on: nothing enters in it
 module _ (listing : Listing) (line : TickLine) (m : Shown) (acts : m.acts ≡ []) (none : m.outcome ≡ None) where

@@ -55,12 +55,6 @@ pub used_up : (lines : List TickLine) (k used : ℕ) (l : TickLine) → l.count 
     → repeat (l.count - (used + 1)) l (ticks_of (drop (suc k) lines)) ≡ ticks_of (drop (suc k) lines)
 used_up lines k used l h = let e : l.count - (used + 1) ≡ 0 = omega arith in ap (λ (n : ℕ). repeat n l (ticks_of (drop (suc k) lines))) e
 
-pub none_left : (lines : List TickLine) (k : ℕ) → length lines ≤ k → drop k lines ≡ []
-none_left [] zero h = refl
-none_left [] (suc k) h = refl
-none_left (x ∷ xs) zero h = absurd (omega arith)
-none_left (x ∷ xs) (suc k) h = none_left xs k (omega arith)
-
 -- with a tick left in its line a cursor stays there
 pub still_here : (lines : List TickLine) (k used : ℕ) (l : TickLine) → slice_get lines k ≡ Some l → used + 1 < l.count
     → left_in (drop k lines) (used + 1) ≡ repeat (l.count - (used + 1)) l (ticks_of (drop (suc k) lines))

@@ -1,6 +1,7 @@
 use Rattle.std.proofs.Common.{◌≡◌, ℕ, List, [], ◌∷◌, ap, arith, inr, length, rules, sym, ◌∙◌, subst}
+use Rattle.std.proofs.lemmas.List.{nil_from_length}
 use Rattle.hm_text_base.specs.Spans.{Lines, lines_of}
-use Rattle.hm_debug.proofs.Lines.{count_line, none_left, some_says}
+use Rattle.hm_debug.proofs.Lines.{count_line, some_says}
 use Rattle.hm_debug.specs.Scripts.{IsFirstBad, SayAll, lines_in}
 use Rattle.hm_debug.proofs.checking.check_lines.Goals as goal
 
@@ -20,5 +21,5 @@ pub returns-then-is_empty-clause-fine : goal.returns-then-is_empty-clause-fine
 returns-then-is_empty-clause-fine c =
     let none : length c.loop-words.rest.now ≡ 0 = search rules in
     let lines : lines_of c.loop-words.rest.now ≡ ([], []) = c.in_default.ensures.unended
-    ∙ ap (λ (r : List ℕ). ([], r)) (none_left c.loop-words.rest.now none) in
+    ∙ ap (λ (r : List ℕ). ([], r)) (nil_from_length c.loop-words.rest.now none) in
     c.loop-words.invariant.fine [] (subst (λ (ls : Lines). SayAll ls []) (sym lines) tt)

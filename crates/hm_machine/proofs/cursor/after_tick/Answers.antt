@@ -1,6 +1,7 @@
 use Rattle.std.proofs.Common.{◌∙◌, ℕ, suc, ◌+◌, ◌<◌, ◌≤◌, drop, length, ap, sym, arith, add-one}
+use Rattle.std.proofs.lemmas.List.{drop_all}
 use Rattle.hm_machine.specs.Machines.{left_in}
-use Rattle.hm_machine.proofs.Cursors.{begins, has_next, left_new, line_first, still_here, used_up, none_left}
+use Rattle.hm_machine.proofs.Cursors.{begins, has_next, left_new, line_first, still_here, used_up}
 use Rattle.hm_sched.specs.Schedule.{line_of, ticks_of, most_irq}
 use Rattle.hm_machine.proofs.cursor.after_tick.Goals as goal
 
@@ -37,4 +38,4 @@ returns-clause-none c =
     let line = line_of c.args.line.now in
     let past : length lines ≤ suc at.line = omega (arith, c.if-cursor-lines.false, c.lines-lines.ensures.count) in
     ap (drop 1) (line_first lines at.line at.used line c.requires.stands c.requires.here) ∙ used_up lines at.line at.used line c.if-cursor-count.false
-    ∙ ap ticks_of (none_left lines (suc at.line) past)
+    ∙ ap ticks_of (drop_all (suc at.line) lines past)
