@@ -7,7 +7,7 @@ use std::alloc::Global;
 use std::str::SplitWhitespace;
 
 /// The number that decimal digits give.
-fn number(input: &[u8]) -> Result<u64> {
+fn read_decimal(input: &[u8]) -> Result<u64> {
     text(input)?.parse::<u64>().context("no number")
 }
 
@@ -25,14 +25,17 @@ pub fn written(alloc: Global, words: &mut SplitWhitespace<'_>, input: &[u8]) -> 
     hm_text_base::text(&mut out, b"x ")?;
     match words.next().context("a form is wanted")? {
         "text" => hm_text_base::text(&mut out, input)?,
-        "hex2" => hex2(&mut out, u8::try_from(number(input)?).context("too large")?)?,
+        "hex2" => hex2(
+            &mut out,
+            u8::try_from(read_decimal(input)?).context("too large")?,
+        )?,
         "hex8" => hex8(
             &mut out,
-            u32::try_from(number(input)?).context("too large")?,
+            u32::try_from(read_decimal(input)?).context("too large")?,
         )?,
         "bytes" => hex_bytes(alloc, &mut out, input)?,
-        "bit" => binary_digit(&mut out, number(input)? != 0)?,
-        "decimal" => decimal(alloc, &mut out, number(input)?)?,
+        "bit" => binary_digit(&mut out, read_decimal(input)? != 0)?,
+        "decimal" => decimal(alloc, &mut out, read_decimal(input)?)?,
         _ => bail!("no such form"),
     }
     Ok(String::from_utf8(out)?)

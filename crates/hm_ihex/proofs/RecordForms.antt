@@ -20,8 +20,8 @@ digit_told c d e = grind (arith, nat_tests)
 abbrev byte_of : Option ℕ → Option ℕ → Option ℕ
 byte_of high low = option_and_then (λ (h : ℕ). option_map (λ (l : ℕ). 16 * h + l) low) high
 
-abbrev bytes_of : Option ℕ → Option (List ℕ) → Option (List ℕ)
-bytes_of byte more = option_and_then (λ (b : ℕ). option_map (λ (bs : List ℕ). b ∷ bs) more) byte
+abbrev byte_and_more : Option ℕ → Option (List ℕ) → Option (List ℕ)
+byte_and_more byte more = option_and_then (λ (b : ℕ). option_map (λ (bs : List ℕ). b ∷ bs) more) byte
 
 byte_read : (h l b : ℕ) → IsDigit h (b / 16) → IsDigit l (b % 16) → byte_in h l ≡ Some b
 byte_read h l b high low =
@@ -37,8 +37,8 @@ bytes_read (c ∷ []) (b ∷ bytes) h = absurd h
 bytes_read (c ∷ d ∷ digits) [] h = absurd h
 bytes_read (c ∷ d ∷ digits) (b ∷ bytes) h =
     bytes_next c d digits
-    ∙ ap (λ (o : Option ℕ). bytes_of o (bytes_in digits)) (byte_read c d b h.0 h.1)
-    ∙ ap (λ (o : Option (List ℕ)). bytes_of (Some b) o) (bytes_read digits bytes h.2)
+    ∙ ap (λ (o : Option ℕ). byte_and_more o (bytes_in digits)) (byte_read c d b h.0 h.1)
+    ∙ ap (λ (o : Option (List ℕ)). byte_and_more (Some b) o) (bytes_read digits bytes h.2)
 
 -- what two digits and the bytes behind them are, where they are some
 record Parts (h l : Option ℕ) (o : Option (List ℕ)) (bytes : List ℕ) : Type 0 where
@@ -50,7 +50,7 @@ record Parts (h l : Option ℕ) (o : Option (List ℕ)) (bytes : List ℕ) : Typ
   is_more : o ≡ Some more
   whole : (16 * high + low) ∷ more ≡ bytes
 
-parts : (h l : Option ℕ) (o : Option (List ℕ)) (bytes : List ℕ) → bytes_of (byte_of h l) o ≡ Some bytes → Parts h l o bytes
+parts : (h l : Option ℕ) (o : Option (List ℕ)) (bytes : List ℕ) → byte_and_more (byte_of h l) o ≡ Some bytes → Parts h l o bytes
 parts None l o bytes e = absurd cc
 parts (Some h) None o bytes e = absurd cc
 parts (Some h) (Some l) None bytes e = absurd cc

@@ -48,7 +48,7 @@ module _ (t : ElementType) (at : ℕ → ℕ) (n : ℕ) (l : Line) (fine : IsLin
     pub byte : v.byte ≡ replaced t (at l.array) j f m
 
   -- and at its end those of a vector more
-  pub record Turned (j : ℕ) (v w : View) : Type 0 where
+  pub record TurnDone (j : ℕ) (v w : View) : Type 0 where
     pub cans : Cans t (body_code at l) v
     pub size : w.size ≡ size_code t
     pub offset : w.offset ≡ bytes t * (j + lanes t)
@@ -81,8 +81,8 @@ module _ (t : ElementType) (at : ℕ → ℕ) (n : ℕ) (l : Line) (fine : IsLin
       let same : (o + 16) % 2 ^ 32 ≡ o + 16 = omega arith in
       same ∙ ap (λ (x : ℕ). x + 16) e ∙ next_vector t j
 
-  pub turned : (j : ℕ) (v : View) → AtTurn j v → Turned j v (execs t (body_code at l) v)
-  turned j v turn =
+  pub turn_done : (j : ℕ) (v : View) → AtTurn j v → TurnDone j v (execs t (body_code at l) v)
+  turn_done j v turn =
       let a = at l.array in
       let ready = ready_at j v turn in
       let shallow : 0 + need l.expr ≤ 8 = let h = fine.shallow in omega arith in
@@ -128,7 +128,7 @@ module _ (t : ElementType) (at : ℕ → ℕ) (n : ℕ) (l : Line) (fine : IsLin
       around j v s pc turn shows =
           let b = body_code at l in
           let w = execs t b v in
-          let d = turned j v turn in
+          let d = turn_done j v turn in
           let r = straight next Shows t Stands rows b v s shows
           (subst (λ (x : ℕ). CodeStands Stands x (map Plain b)) (sym pc) (stands_front Stands p (map Plain b) (Again h ∷ []) stands)) d.cans in
           let here : p + 2 * items_halves (map Plain b) ≡ w.pc = omega (arith, plain_halves b, pc_execs t b v) in
@@ -139,7 +139,7 @@ module _ (t : ElementType) (at : ℕ → ℕ) (n : ℕ) (l : Line) (fine : IsLin
       after_last k j v s pc turn is shows le =
           let b = body_code at l in
           let w = execs t b v in
-          let d = turned j v turn in
+          let d = turn_done j v turn in
           let leaves : again t h w ≡ record w { pc = w.pc + 4; size = 4 } =
           ap (λ (u : Bool). cond u (record w { pc = w.pc + 4; size = 4 }) (record w { pc = w.pc + 4 - 2 * h; left = w.left - lanes t }))
           (le_true w.left (lanes t) (let same = d.left in omega arith)) in
@@ -158,7 +158,7 @@ module _ (t : ElementType) (at : ℕ → ℕ) (n : ℕ) (l : Line) (fine : IsLin
       before_last k j v s pc turn is shows lt rest =
           let b = body_code at l in
           let w = execs t b v in
-          let d = turned j v turn in
+          let d = turn_done j v turn in
           let x = record w { pc = w.pc + 4 - 2 * h; left = w.left - lanes t } in
           let leaves : again t h w ≡ x =
           ap (λ (u : Bool). cond u (record w { pc = w.pc + 4; size = 4 }) x) (le_false w.left (lanes t) (let same = d.left in omega arith)) in

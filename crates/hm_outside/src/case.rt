@@ -58,7 +58,7 @@ pub struct Case {
 }
 
 /// The next word of a line, a hexadecimal number.
-fn number(words: &mut SplitWhitespace<'_>) -> Result<u32> {
+fn read_number(words: &mut SplitWhitespace<'_>) -> Result<u32> {
     let word = words.next().context("a number is wanted")?;
     u32::from_str_radix(word, 16).context("no number")
 }
@@ -83,7 +83,7 @@ fn halfwords(alloc: Global, words: &mut SplitWhitespace<'_>) -> Result<Vec<u8>> 
 
 /// An address and the bytes that stand there.
 fn read_segment(alloc: Global, words: &mut SplitWhitespace<'_>) -> Result<Segment> {
-    let addr = number(words)?;
+    let addr = read_number(words)?;
     let digits = words.next().context("bytes are wanted")?;
     let bytes = hex::decode(alloc, digits).context("no bytes")?;
     Ok(Segment { addr, bytes })
@@ -219,12 +219,12 @@ impl Case {
     fn take_words<'a>(&mut self, alloc: Global, name: &'a str, rest: &'a str) -> Result<()> {
         let mut words = rest.split_whitespace();
         match name {
-            "at" => self.move_to(number(&mut words)?)?,
-            "steps" => self.steps = Some(number(&mut words)?),
-            "beat" => self.first_beat = Below::of(number(&mut words)?).context("no beat")?,
-            "last" => self.end_with(number(&mut words)?)?,
+            "at" => self.move_to(read_number(&mut words)?)?,
+            "steps" => self.steps = Some(read_number(&mut words)?),
+            "beat" => self.first_beat = Below::of(read_number(&mut words)?).context("no beat")?,
+            "last" => self.end_with(read_number(&mut words)?)?,
             "handler" => self.actor = Actor::Handler {
-                frame: number(&mut words)?,
+                frame: read_number(&mut words)?,
             },
             "bytes" => self.loaded.push(read_segment(alloc, &mut words)?)?,
             "tainted" => numbers(&mut words, &mut self.tainted)?,

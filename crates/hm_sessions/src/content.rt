@@ -1,6 +1,6 @@
 //! How lines say what bytes are.
 
-use crate::named::{Named, find, number};
+use crate::named::{Named, find, read_number};
 use anyhow::{Context, Result};
 use hm_host::MemHost;
 use std::alloc::Global;
@@ -25,7 +25,7 @@ fn line_bytes(alloc: Global, text: &str) -> Result<Vec<u8>> {
 /// A number and the bytes of a name.
 fn counted<'a>(named: &'a [Named], text: &str) -> Result<(usize, &'a [u8])> {
     let mut words = text.split_whitespace();
-    let count = number(words.next())?;
+    let count = read_number(words.next())?;
     let all = find(named, words.next().context("a name is wanted")?)?;
     Ok((count, all))
 }
@@ -64,7 +64,7 @@ pub fn content(
         "|" => line_bytes(alloc, text)?,
         "text" => text.as_bytes().to_vec(alloc)?,
         "hex" => hex_bytes(alloc, text)?,
-        "zeros" => vec![in alloc; 0; number(Some(text))?]?,
+        "zeros" => vec![in alloc; 0; read_number(Some(text))?]?,
         "add" => find(named, text)?.to_vec(alloc)?,
         "front" => front_bytes(alloc, named, text)?,
         "times" => repeated_bytes(alloc, named, text)?,
@@ -79,7 +79,9 @@ pub fn content(
 /// Puts a byte in the place of another: where it stands, and the byte.
 pub fn put(bytes: &mut [u8], text: &str) -> Result<()> {
     let (at, byte) = text.split_once(' ').context("a byte is wanted")?;
-    let place = bytes.get_mut(number(Some(at))?).context("no such place")?;
+    let place = bytes
+        .get_mut(read_number(Some(at))?)
+        .context("no such place")?;
     *place = u8::from_str_radix(byte, 16).context("no byte")?;
     Ok(())
 }

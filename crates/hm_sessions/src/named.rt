@@ -31,7 +31,7 @@ pub fn find<'a>(all: &'a [Named], name: &str) -> Result<&'a [u8]> {
 }
 
 /// A decimal number.
-pub fn number(word: Option<&str>) -> Result<usize> {
+pub fn read_number(word: Option<&str>) -> Result<usize> {
     let word = word.context("a number is wanted")?;
     word.parse::<usize>().context("no number")
 }

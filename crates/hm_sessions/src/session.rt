@@ -2,7 +2,7 @@
 
 use crate::content::{content, put};
 use crate::cut::{each_call_fails, host_of, words_of};
-use crate::named::{Named, find, number};
+use crate::named::{Named, find, read_number};
 use crate::trial::Trial;
 use anyhow::{Context, Result, bail, ensure};
 use hm_commands::helium;
@@ -43,7 +43,7 @@ fn failing(alloc: Global, words: &mut SplitWhitespace<'_>) -> Result<FailList> {
         ensure!(word == "failing", "not failing but {word}");
     }
     for word in words {
-        list.add(number(Some(word))? as u64)?;
+        list.add(read_number(Some(word))? as u64)?;
     }
     Ok(list)
 }
@@ -156,7 +156,7 @@ impl Session {
     fn ends(&mut self, text: &str) -> Result<bool> {
         let (head, line) = text.split_once(':').context("a command is wanted")?;
         let mut head = head.split_whitespace();
-        let status = number(head.next())?;
+        let status = read_number(head.next())?;
         self.renew(&mut head)?;
         let words = words_of(self.alloc, line)?;
         let ended = helium(self.alloc, &words, &mut self.host);
@@ -167,7 +167,7 @@ impl Session {
     fn each_fails(&self, text: &str) -> Result<bool> {
         let (head, line) = text.split_once(':').context("a command is wanted")?;
         let mut head = head.split_whitespace();
-        let count = number(head.next())?;
+        let count = read_number(head.next())?;
         let written = head.next().unwrap_or("");
         let words = words_of(self.alloc, line)?;
         each_call_fails(self.alloc, &self.files, &words, count, written)
@@ -193,13 +193,13 @@ impl Session {
         };
         match fact {
             "absent" => Ok(false),
-            "size" => Ok(bytes.len() == number(words.next())?),
+            "size" => Ok(bytes.len() == read_number(words.next())?),
             "holds" => {
                 let expected = find(&self.named, words.next().context("bytes are wanted")?)?;
                 Ok(bytes == expected)
             }
             "part" => {
-                let at = number(words.next())?;
+                let at = read_number(words.next())?;
                 let expected = find(&self.named, words.next().context("bytes are wanted")?)?;
                 Ok(stands_at(bytes, at, expected))
             }
@@ -213,7 +213,7 @@ impl Session {
             "ends" => self.ends(text),
             "each" => self.each_fails(text),
             "fronts" | "puts" | "whole" => self.tries(fact, text),
-            "calls" => Ok(self.host.calls() == Some(number(Some(text))?)),
+            "calls" => Ok(self.host.calls() == Some(read_number(Some(text))?)),
             "prints" => Ok(self.host.printed() == find(&self.named, text)?),
             "says" => Ok(self.host.printed().strip_suffix(b"\n") == Some(text.as_bytes())),
             "line" => Ok(has_line(self.host.printed(), text.as_bytes())),

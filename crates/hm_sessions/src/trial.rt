@@ -1,7 +1,7 @@
 //! A command line that is tried on many files, each a little other than the last.
 
 use crate::cut::{files_of, same_file, words_of};
-use crate::named::{Named, number};
+use crate::named::{Named, read_number};
 use anyhow::{Context, Result};
 use hm_commands::{Status, helium};
 use hm_host::{FailList, MemHost};
@@ -18,7 +18,7 @@ struct End<'a> {
 /// The number at the front of a text, and what stands behind it.
 fn numbered(text: &str) -> Result<(usize, &str)> {
     let (word, rest) = text.split_once(' ').unwrap_or((text, ""));
-    Ok((number(Some(word))?, rest))
+    Ok((read_number(Some(word))?, rest))
 }
 
 impl<'a> End<'a> {

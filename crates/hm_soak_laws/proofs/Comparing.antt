@@ -20,8 +20,8 @@ by test decides f x y = record { test = test (f x) (f y); Same = f x ≡ f y; de
 abbrev pub flag : (Regs → Bool) → (x y : Regs) → Compared x y
 flag = by beq booleans_Decides
 
-abbrev pub number : (Regs → ℕ) → (x y : Regs) → Compared x y
-number = by nat_eq Decides-eqb
+abbrev pub compared_number : (Regs → ℕ) → (x y : Regs) → Compared x y
+compared_number = by nat_eq Decides-eqb
 
 abbrev pub words : (Regs → List ℕ) → (x y : Regs) → Compared x y
 words = by bytes_eq bytes_eq-Decides
@@ -34,23 +34,23 @@ both h k = record { test = h.test && k.test; Same = h.Same × k.Same; decides = 
 abbrev pub compared : (x y : Regs) → Compared x y
 compared x y =
     both (words (λ g. g.r) x y)
-    (both (number (λ g. g.sp) x y)
-    (both (number (λ g. g.other) x y)
-    (both (number (λ g. g.lr) x y)
-    (both (number (λ g. g.pc) x y)
+    (both (compared_number (λ g. g.sp) x y)
+    (both (compared_number (λ g. g.other) x y)
+    (both (compared_number (λ g. g.lr) x y)
+    (both (compared_number (λ g. g.pc) x y)
     (both (flag (λ g. g.n) x y)
     (both (flag (λ g. g.z) x y)
     (both (flag (λ g. g.c) x y)
     (both (flag (λ g. g.v) x y)
     (both (flag (λ g. g.q) x y)
-    (both (number (λ g. g.it) x y)
-    (both (number (λ g. g.fpscr) x y)
-    (both (number (λ g. g.vpr) x y)
+    (both (compared_number (λ g. g.it) x y)
+    (both (compared_number (λ g. g.fpscr) x y)
+    (both (compared_number (λ g. g.vpr) x y)
     (both (words (λ g. g.qw) x y)
     (both (flag (λ g. g.fpca) x y)
     (both (flag (λ g. g.primask) x y)
     (both (flag (λ g. g.spsel) x y)
-    (both (number (λ g. g.basepri) x y) (number (λ g. g.ipsr) x y))))))))))))))))))
+    (both (compared_number (λ g. g.basepri) x y) (compared_number (λ g. g.ipsr) x y))))))))))))))))))
 
 abbrev pub same_regs : Regs → Regs → Bool
 same_regs x y = (compared x y).test

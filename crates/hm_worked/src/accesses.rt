@@ -2,7 +2,7 @@
 
 ghost use Rattle.std.specs.Prelude.{◌≡◌, ◌≤◌};
 
-use crate::words::{Stopped, alignment, length, number};
+use crate::words::{Stopped, alignment, length, read_number};
 use anyhow::{Result, bail, ensure};
 use hm_base::{Image, Stop};
 use hm_mem::{Access, Actor, Mem};
@@ -11,9 +11,9 @@ use std::str::SplitWhitespace;
 
 /// A memory of a blank image: where handlers may store from, up to where, and the floor.
 pub fn blank(alloc: Global, words: &mut SplitWhitespace<'_>) -> Result<Mem> {
-    let lo = number(words)?;
-    let hi = number(words)?;
-    let floor = number(words)?;
+    let lo = read_number(words)?;
+    let hi = read_number(words)?;
+    let floor = read_number(words)?;
     ensure!(
         0x2000_0000 <= lo && lo <= hi && hi <= 0x2004_0000,
         "no region"
@@ -27,7 +27,7 @@ pub fn actor(words: &mut SplitWhitespace<'_>) -> Result<Actor> {
     match words.next() {
         Some("thread") => Ok(Actor::Thread),
         Some("handler") => Ok(Actor::Handler {
-            frame: number(words)?,
+            frame: read_number(words)?,
         }),
         _ => bail!("nobody"),
     }
@@ -49,14 +49,14 @@ pub fn checked(
     write: bool,
 ) -> Result<String> {
     let how = alignment(words)?;
-    let addr = number(words)?;
+    let addr = read_number(words)?;
     let len = length(words)?;
     ended(alloc, mem.check(addr, len, how, write))
 }
 
 /// What a load gives: the address and how many bytes.
 pub fn loaded(alloc: Global, words: &mut SplitWhitespace<'_>, mem: &mut Mem) -> Result<String> {
-    let addr = number(words)?;
+    let addr = read_number(words)?;
     let len = length(words)?;
     match mem.load(addr, len, Access::Scalar) {
         Ok(value) => Ok(format!(in alloc; "{value:08x}")?),
@@ -66,8 +66,8 @@ pub fn loaded(alloc: Global, words: &mut SplitWhitespace<'_>, mem: &mut Mem) -> 
 
 /// How a store ends: the address, how many bytes and the value.
 pub fn stored(alloc: Global, words: &mut SplitWhitespace<'_>, mem: &mut Mem) -> Result<String> {
-    let addr = number(words)?;
+    let addr = read_number(words)?;
     let len = length(words)?;
-    let value = number(words)?;
+    let value = read_number(words)?;
     ended(alloc, mem.store(addr, len, value, Access::Scalar))
 }

@@ -4,7 +4,7 @@ use crate::accesses::{actor, blank, checked, loaded, stored};
 use crate::runs::{bytes_text, has_line, schedule_text, shown, started, taint_text};
 use crate::tapes::taped;
 use crate::vectors::{overlapped, refused, touched};
-use crate::words::{lines_of, number};
+use crate::words::{lines_of, read_number};
 use anyhow::{Context, Result, bail};
 use hm_isa::{Below, Instr, S18, Scalar, width};
 use hm_machine::Machine;
@@ -36,14 +36,14 @@ fn yes_or_no(alloc: Global, is: bool) -> Result<String> {
 
 /// How many bytes a breakpoint of a number has.
 fn breakpoint_width(alloc: Global, words: &mut SplitWhitespace<'_>) -> Result<String> {
-    let i = Below::of(number(words)?).context("no number of a breakpoint")?;
+    let i = Below::of(read_number(words)?).context("no number of a breakpoint")?;
     let width = width(&Instr::Scalar(Scalar::S18(S18 { i })));
     Ok(format!(in alloc; "{width}")?)
 }
 
 /// A number that is below 8, and `none` for others.
 fn below_eight(alloc: Global, words: &mut SplitWhitespace<'_>) -> Result<String> {
-    match Below::<8>::of(number(words)?) {
+    match Below::<8>::of(read_number(words)?) {
         Some(below) => Ok(format!(in alloc; "{}", below.get())?),
         None => Ok(String::from_str(alloc, "none")?),
     }
@@ -182,7 +182,7 @@ impl Bench {
         let words = &mut text.split_whitespace();
         match deed {
             "actor" => memory.set_actor(actor(words)?),
-            _ => memory.dev_mut().csr = number(words)?,
+            _ => memory.dev_mut().csr = read_number(words)?,
         }
         Ok(())
     }

@@ -1,6 +1,6 @@
 //! Machines, from their sources and schedules to what they show.
 
-use crate::words::number;
+use crate::words::read_number;
 use anyhow::{Context, Result, bail, ensure};
 use hm_asm::assemble;
 use hm_base::Image;
@@ -41,7 +41,7 @@ pub fn bytes_text(
     machine: &Machine,
 ) -> Result<String> {
     let mut text = String::new(alloc);
-    for addr in number(words)?..number(words)? {
+    for addr in read_number(words)?..read_number(words)? {
         match machine.byte(addr) {
             Some(byte) => text.push_str(&format!(in alloc; "{byte:02x}")?)?,
             None => text.push_str("--")?,
@@ -56,7 +56,7 @@ pub fn taint_text(
     words: &mut SplitWhitespace<'_>,
     machine: &Machine,
 ) -> Result<String> {
-    let addresses = number(words)?..number(words)?;
+    let addresses = read_number(words)?..read_number(words)?;
     let count = addresses.filter(|addr| machine.tainted(*addr)).count();
     Ok(format!(in alloc; "{count}")?)
 }

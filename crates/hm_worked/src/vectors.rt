@@ -1,6 +1,6 @@
 //! What a vector instruction answers, by its text.
 
-use crate::words::{Broken, Named, Stopped, number};
+use crate::words::{Broken, Named, Stopped, read_number};
 use anyhow::{Context, Result, bail, ensure};
 use hm_base::{Places, Stop};
 use hm_beat::BeatWise;
@@ -48,9 +48,9 @@ fn push_places(alloc: Global, text: &mut String, places: &Places) -> Result<()> 
 /// The places that a beat of an instruction reads and writes: VPR, FPSCR and beat.
 pub fn touched(alloc: Global, text: &str, words: &mut SplitWhitespace<'_>) -> Result<String> {
     let row = row(alloc, text)?.context("no vector instruction")?;
-    let vpr = number(words)?;
-    let fpscr = number(words)?;
-    let beat = number(words)?;
+    let vpr = read_number(words)?;
+    let fpscr = read_number(words)?;
+    let beat = read_number(words)?;
     ensure!(beat < 4, "no beat");
     let mut regs = Regs::start(0, 8);
     regs.fpca = true;
@@ -74,10 +74,10 @@ pub fn overlapped(
     let (older, younger) = texts.split_once(" | ").context("no two instructions")?;
     let older = row(alloc, older)?;
     let younger = row(alloc, younger)?;
-    let a = number(words)?;
-    let b = number(words)?;
-    let r0 = number(words)?;
-    let r1 = number(words)?;
+    let a = read_number(words)?;
+    let b = read_number(words)?;
+    let r0 = read_number(words)?;
+    let r1 = read_number(words)?;
     ensure!(a < 4 && b < 4, "no position");
     let at = Window {
         a: a as u8,
@@ -98,8 +98,8 @@ pub fn refused(alloc: Global, text: &str, words: &mut SplitWhitespace<'_>) -> Re
     let vector = vector(alloc, text)?.context("no vector instruction")?;
     let mut regs = Regs::start(0, 8);
     regs.fpca = true;
-    regs.fpscr = number(words)?;
-    regs.lr = number(words)?;
+    regs.fpscr = read_number(words)?;
+    regs.lr = read_number(words)?;
     match refuse(&vector, &regs) {
         Some(fault) => Ok(format!(in alloc; "{}", Stopped(Stop::Fault(fault)))?),
         None => Ok(String::from_str(alloc, "none")?),

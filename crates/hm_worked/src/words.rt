@@ -12,7 +12,7 @@ use std::fmt;
 use std::str::SplitWhitespace;
 
 /// The next word, a number in hexadecimal.
-pub fn number(words: &mut SplitWhitespace<'_>) -> Result<u32> {
+pub fn read_number(words: &mut SplitWhitespace<'_>) -> Result<u32> {
     let word = words.next().context("a number is wanted")?;
     u32::from_str_radix(word, 16).context("no number")
 }
