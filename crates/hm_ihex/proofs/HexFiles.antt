@@ -25,14 +25,14 @@ use Rattle.hm_ihex.proofs.Holding.{Holds, bytes_same, first_holds, image_apart, 
 abbrev Apart : Segment → Segment → Type 0
 Apart s t = Before s t ⊎ Before t s
 
-turned : (s t : Segment) → Apart s t → Apart t s
-turned s t (inl before) = inr before
-turned s t (inr behind) = inl behind
+swapped : (s t : Segment) → Apart s t → Apart t s
+swapped s t (inl before) = inr before
+swapped s t (inr behind) = inl behind
 
 -- one behind the others
 apart_push : (s : Segment) (ss : List Segment) → AreApart ss → IsApart s ss → AreApart (ss ++ s ∷ [])
 apart_push s [] h apart = (All-nil (Apart s), tt)
-apart_push s (t ∷ ts) h apart = (All-push (Apart t) ts s h.0 (turned s t (All-head (Apart s) t ts apart)), apart_push s ts h.1 (All-tail (Apart s) t ts apart))
+apart_push s (t ∷ ts) h apart = (All-push (Apart t) ts s h.0 (swapped s t (All-head (Apart s) t ts apart)), apart_push s ts h.1 (All-tail (Apart s) t ts apart))
 
 apart_one : (t s : Segment) (xs ys : List Segment) → IsApart t (xs ++ s ∷ ys) → Apart t s
 apart_one t s [] ys h = All-head (Apart t) s ys h
@@ -40,7 +40,7 @@ apart_one t s (x ∷ xs) ys h = apart_one t s xs ys (All-tail (Apart t) x (xs ++
 
 apart_front : (s : Segment) (xs ys : List Segment) → AreApart (xs ++ s ∷ ys) → IsApart s xs
 apart_front s [] ys h = All-nil (Apart s)
-apart_front s (x ∷ xs) ys h = All-cons (Apart s) x xs (turned x s (apart_one x s xs ys h.0)) (apart_front s xs ys h.1)
+apart_front s (x ∷ xs) ys h = All-cons (Apart s) x xs (swapped x s (apart_one x s xs ys h.0)) (apart_front s xs ys h.1)
 
 -- ---- no data
 

@@ -28,9 +28,9 @@ module _ (t : ElementType) (n : ℕ) where
       → ShareNone t n (slice_index_or (x ∷ xs) i x) (slice_index_or (x ∷ xs) j x)
   in_order x xs i j h l k = h i j x l k
 
-  turned : (x y : Array) → ShareNone t n x y → ShareNone t n y x
-  turned x y (inl h) = inr h
-  turned x y (inr h) = inl h
+  swapped : (x y : Array) → ShareNone t n x y → ShareNone t n y x
+  swapped x y (inl h) = inr h
+  swapped x y (inr h) = inl h
 
   apart_by : (a b : ℕ) (x y : Array) → a ≡ x.addr → b ≡ y.addr → ShareNone t n x y → AreApart t n a b
   apart_by a b x y e f h = inr (subst (λ (c : ℕ). (c + bytes t * n ≤ b) ⊎ (b + bytes t * n ≤ c)) (sym e)
@@ -46,7 +46,7 @@ module _ (t : ElementType) (n : ℕ) where
       ⊎_elim
       (λ lt. apart_by (address (x ∷ xs) i) (address (x ∷ xs) j) a b e f (in_order x xs i j h lt l))
       (λ le. ⊎_elim
-      (λ lt. apart_by (address (x ∷ xs) i) (address (x ∷ xs) j) a b e f (turned b a (in_order x xs j i h lt k)))
+      (λ lt. apart_by (address (x ∷ xs) i) (address (x ∷ xs) j) a b e f (swapped b a (in_order x xs j i h lt k)))
       (λ ge. let same : i ≡ j = omega arith in inl (ap (address (x ∷ xs)) same))
       (cases_lt j i))
       (cases_lt i j)

@@ -22,16 +22,16 @@ picked : (P : WrittenArray → Type 0) (front : List WrittenArray) (a : WrittenA
 picked P [] a rest all = all.0
 picked P (b ∷ front) a rest all = picked P front a rest all.1
 
-turned : (t : ElementType) (n : ℕ) (a b : Array) → IsApart t n b.addr (array_written a) → ShareNone t n a b
-turned t n a b (inl le) = inr le
-turned t n a b (inr le) = inl le
+other_shares_none : (t : ElementType) (n : ℕ) (a b : Array) → IsApart t n b.addr (array_written a) → ShareNone t n a b
+other_shares_none t n a b (inl le) = inr le
+other_shares_none t n a b (inr le) = inl le
 
 -- each array shares no byte with one before it
 apart_behind : (t : ElementType) (n : ℕ) (front : List WrittenArray) (a : Array) (rest : List WrittenArray) (xs : List Array)
     → AreArrays t n (front ++ array_written a ∷ rest) (map array_written xs) → All (ShareNone t n a) xs
 apart_behind t n front a rest [] are = All-nil (ShareNone t n a)
 apart_behind t n front a rest (b ∷ xs) are =
-    let one = turned t n a b (picked (IsApart t n b.addr) front (array_written a) rest are.0.apart) in
+    let one = other_shares_none t n a b (picked (IsApart t n b.addr) front (array_written a) rest are.0.apart) in
     let grown = append_assoc front (array_written a ∷ rest) (array_written b ∷ []) in
     All-cons (ShareNone t n a) b xs one
     (apart_behind t n front a (rest ++ array_written b ∷ []) xs (subst (λ (x : List WrittenArray). AreArrays t n x (map array_written xs)) grown are.1))

@@ -9,9 +9,9 @@ use Rattle.hm_run.specs.declared.Turn.TheVariants.{Running, Ended}
 use Rattle.hm_state.specs.Start.{reset_pc}
 
 -- what a tick answers
-abbrev pub turned : Option Outcome → Turn
-turned None = Running
-turned (Some o) = Ended o
+abbrev pub tick_answer : Option Outcome → Turn
+tick_answer None = Running
+tick_answer (Some o) = Ended o
 
 -- why there is no machine for an image: the word at 4 is even
 abbrev pub LoadRefuses : List Segment → LoadErr → Type 0

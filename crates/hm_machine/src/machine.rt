@@ -7,7 +7,7 @@ ghost use Rattle.hm_codes.specs.Listing.{Listing, IsListing, Stands};
 ghost use Rattle.hm_isa.specs.declared.Instr.{Instr};
 ghost use Rattle.hm_machine.specs.Bares.{IsBare, ShowsGiven, may_pair};
 ghost use Rattle.hm_machine.specs.Shown.{Shows, fixed_of, run_of, timed_of};
-ghost use Rattle.hm_machine.specs.Turns.{turned, LoadRefuses};
+ghost use Rattle.hm_machine.specs.Turns.{tick_answer, LoadRefuses};
 ghost use Rattle.hm_mem.specs.Memory.{flash_at, memory_of, told_at, tainted_at};
 ghost use Rattle.hm_run.specs.Headline.{Headline, PlainReport, Riders};
 ghost use Rattle.hm_run.specs.InOrder.{in_order};
@@ -277,7 +277,7 @@ impl Machine {
     pub fn tick(&mut self) -> Turn
         ensures shows { (image : List Segment) (s : Sched) (t : ℕ) → Shows image s t self.old → Shows image s (suc t) self.new }
         ensures ended { IsSome self.old.outcome → self.new ≡ self.old }
-        ensures turn { result ≡ turned self.new.outcome }
+        ensures turn { result ≡ tick_answer self.new.outcome }
         // Under a schedule with lines.
         ensures fewer { self.old.outcome ≡ None → 0 < length self.old.schedule.lines → length self.new.left < length self.old.left }
         ensures once { self.old.outcome ≡ None → 0 < length self.old.schedule.lines → self.new.ticks ≡ self.old.ticks + 1 }
@@ -346,7 +346,7 @@ impl Machine {
         ensures bare { IsBare self.new }
         ensures flash { flash_at self.new.memory ≡ flash_at self.old.memory }
         ensures ended { IsSome self.old.outcome → self.new ≡ self.old }
-        ensures turn { result ≡ turned self.new.outcome }
+        ensures turn { result ≡ tick_answer self.new.outcome }
     {
         if let Some(outcome) = self.outcome {
             return Turn::Ended(outcome);
