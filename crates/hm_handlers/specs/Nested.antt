@@ -2,6 +2,7 @@
 -- accesses; its steps are not counted, it may execute no breakpoint, and it returns.
 use Rattle.hm_run.specs.Timed.{bounds_of}
 use Rattle.std.specs.Prelude.{ℕ, zero, suc, ◌+◌, ◌==◌, Bool, cond, List, [], ◌∷◌, map, Option, Some, None, Result, Ok, Err}
+use Rattle.hm_base.specs.Results.{map_err}
 use Rattle.hm_base.specs.declared.Fault.{Fault}
 use Rattle.hm_base.specs.declared.Stop.{Stop}
 use Rattle.hm_codes.specs.Listing.{Listing}
@@ -132,8 +133,7 @@ pub record TickEnd : Type 0 where
 
 -- step k of a tick, and whether it is the younger's, named where it does not go on
 abbrev pub at_step : ℕ → Bool → NestedStep → Result Nested TickEnd
-at_step k younger (Ok x) = Ok x
-at_step k younger (Err e) = Err (record { step = k; younger = younger; end = e })
+at_step k younger x = map_err (λ e. record { step = k; younger = younger; end = e }) x
 
 -- the letters of a tick, of which k were done
 abbrev pub letters : Listing → Sched → ℕ → List ℕ → Nested → Result Nested TickEnd

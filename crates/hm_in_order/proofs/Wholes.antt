@@ -1,5 +1,5 @@
 -- The steps of the older instruction to its end, between two instructions, do what the whole of the next one does alone.
-use Rattle.std.proofs.Common.{◌≡◌, ℕ, zero, suc, ap, refl, sym, ◌∙◌, subst, true, Option, None, Some, Result, Ok, Err, arith}
+use Rattle.std.proofs.Common.{◌≡◌, ℕ, zero, suc, ap, refl, sym, ◌∙◌, subst, true, Option, None, Some, Result, Ok, Err}
 use Rattle.hm_base.specs.declared.Fault.{Fault}
 use Rattle.hm_base.specs.declared.Stop.{Stop}
 use Rattle.hm_codes.specs.Listing.{Listing}
@@ -72,7 +72,8 @@ module _ (around : Around) (thread : around.actor ≡ Thread) where
 
 -- WITHOUT TAINT an instruction that is no vector row comes in the machine to what it comes to alone
 done_same : (q : Result Went Fault) → done_as cause.Stop (as_stops q) ≡ with_cause (done_as Faults q)
-done_same q = grind arith
+done_same (Ok x) = refl
+done_same (Err f) = refl
 
 pub under_thread : (x : Around) → x.actor ≡ Thread → x ≡ thread_under x.bounds
 under_thread x e = λ j. record { actor = e j; bounds = x.bounds }
