@@ -1,4 +1,4 @@
--- InFlight steps leave steps of their instruction behind them, and what all steps that are left do.
+-- Which steps leave steps of their instruction behind them, and what all steps that are left do.
 use Rattle.std.proofs.Common.{◌≡◌, ℕ, suc, ◌+◌, ◌<◌, ◌≤◌, arith, ap, refl, sym, ◌∙◌, subst, not, IsTrue, Option, Result, Ok, Err}
 use Rattle.hm_base.specs.declared.Fault.{Fault}
 use Rattle.hm_codes.specs.Listing.{IsListing, Listing, Stands}
