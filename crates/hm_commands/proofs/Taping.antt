@@ -12,7 +12,7 @@ use Rattle.hm_debug.specs.Scripts.{IsScript, ScriptRefuses, ScriptStops}
 use Rattle.hm_debug.specs.declared.command.Command.{Command}
 use Rattle.hm_debug.specs.declared.errors.ScriptErr.{ScriptErr}
 use Rattle.hm_debug.specs.declared.errors.ScriptErr.TheVariants as script
-use Rattle.hm_journal.specs.Journals.{Journaled, journal_text}
+use Rattle.hm_journal.specs.Journals.{Journaled, journal_text, most_checkpoints}
 use Rattle.hm_journal.specs.Outcomes.{IsReading, IsReadErr}
 use Rattle.hm_journal.specs.Runs.{AreOfRun, IsCompareErr, IsWriteErr, journal_of, report_at}
 use Rattle.hm_journal.specs.declared.journal.JournalErr.{JournalErr}
@@ -93,19 +93,19 @@ abbrev journal_at : (List Segment → Listing) → ℕ → List ℕ → List Seg
 journal_at listings every out image s many = if many then refuses (Journal journal.TooMany)
     else finishes true (Some (out, journal_text (journal_of (listings image) image s every))) None
 
-too_many_test : (n : ℕ) → 64 < n → nat_lt 64 n ≡ true
+too_many_test : (n : ℕ) → most_checkpoints < n → nat_lt most_checkpoints n ≡ true
 too_many_test n h = grind (arith, nat_tests)
 
-few_test : (n : ℕ) → n ≤ 64 → nat_lt 64 n ≡ false
+few_test : (n : ℕ) → n ≤ most_checkpoints → nat_lt most_checkpoints n ≡ false
 few_test n h = grind (arith, nat_tests)
 
-many_refused : (listings : List Segment → Listing) (every : ℕ) (out : List ℕ) (image : List Segment) (s : Sched) → 64 < length (ticks_of s.lines) / every + 1
-    → refuses (Journal journal.TooMany) ≡ journal_written listings every out image s
+many_refused : (listings : List Segment → Listing) (every : ℕ) (out : List ℕ) (image : List Segment) (s : Sched)
+    → most_checkpoints < length (ticks_of s.lines) / every + 1 → refuses (Journal journal.TooMany) ≡ journal_written listings every out image s
 many_refused listings every out image s many =
     sym (ap (journal_at listings every out image s) (too_many_test (length (ticks_of s.lines) / every + 1) many))
 
 few_written : (listings : List Segment → Listing) (every : ℕ) (out : List ℕ) (image : List Segment) (s : Sched) (bytes : List ℕ)
-    → length (ticks_of s.lines) / every + 1 ≤ 64 → bytes ≡ journal_text (journal_of (listings image) image s every)
+    → length (ticks_of s.lines) / every + 1 ≤ most_checkpoints → bytes ≡ journal_text (journal_of (listings image) image s every)
     → finishes true (Some (out, bytes)) None ≡ journal_written listings every out image s
 few_written listings every out image s bytes few is =
     ap (λ (b : List ℕ). finishes true (Some (out, b)) None) is
@@ -141,7 +141,7 @@ not_loaded image o e stop h is =
     subst (λ (x : Stop). GivesOne (λ y. y ≡ unless_refused (reset_refusal image) o) (Err x)) (sym is) (written_by_error image o e h)
 
 pub journal_comes : (listings : List Segment → Listing) (every : ℕ) (out : List ℕ) (image : List Segment) (s : Sched) (bytes : List ℕ) → reset_pc image % 2 ≡ 1
-    → length (ticks_of s.lines) / every + 1 ≤ 64 → bytes ≡ journal_text (journal_of (listings image) image s every)
+    → length (ticks_of s.lines) / every + 1 ≤ most_checkpoints → bytes ≡ journal_text (journal_of (listings image) image s every)
     → IsJournalOutcome listings every out image s (finishes true (Some (out, bytes)) None)
 journal_comes listings every out image s bytes odd few is =
     unless_odd image (λ o. o ≡ journal_written listings every out image s) (finishes true (Some (out, bytes)) None) odd
@@ -239,7 +239,7 @@ again_refused listings image s every out j e stop odd same h is =
 
 pub again_written : (listings : List Segment → Listing) (image : List Segment) (s : Sched) (every : ℕ) (out : List ℕ) (j : Journaled) (bytes : List ℕ)
     → reset_pc image % 2 ≡ 1 → AreOfRun (listings image) image s j.format j.checkpoints
-    → length (ticks_of s.lines) / every + 1 ≤ 64 → bytes ≡ journal_text (journal_of (listings image) image s every)
+    → length (ticks_of s.lines) / every + 1 ≤ most_checkpoints → bytes ≡ journal_text (journal_of (listings image) image s every)
     → UnlessRefused (reset_refusal image) (IsCompared listings image s (journal_written listings every out image s) j) (finishes true (Some (out, bytes)) None)
 again_written listings image s every out j bytes odd same few is =
     next_comes listings image s (journal_written listings every out image s) j (finishes true (Some (out, bytes)) None) odd same

@@ -16,7 +16,7 @@ use Rattle.hm_commands.specs.Images.{image_of}
 use Rattle.hm_elf.specs.WriteImage.{elf_file}
 use Rattle.hm_handlers.specs.Runs.{run_out, shown_out}
 use Rattle.hm_ihex.specs.Written.{hex_file}
-use Rattle.hm_journal.specs.Journals.{Journaled, journal_text}
+use Rattle.hm_journal.specs.Journals.{Journaled, journal_text, most_checkpoints}
 use Rattle.hm_journal.specs.Outcomes.{IsReading as IsJournalRead}
 use Rattle.hm_journal.specs.Runs.{IsComparison, journal_of, report_at}
 use Rattle.hm_journal.specs.declared.journal.JournalErr.{JournalErr}
@@ -124,7 +124,7 @@ IsDebugOutcome listings text image s = λ o. (read : Result (List Command) Scrip
 -- the journal of a run is written, unless it would have too many checkpoints
 abbrev pub journal_written : (List Segment → Listing) → ℕ → List ℕ → List Segment → Sched → Outcome
 journal_written listings every out image s =
-    if nat_lt 64 (length (ticks_of s.lines) / every + 1) then refuses (Journal journal_err.TooMany)
+    if nat_lt most_checkpoints (length (ticks_of s.lines) / every + 1) then refuses (Journal journal_err.TooMany)
     else finishes true (Some (out, journal_text (journal_of (listings image) image s every))) None
 
 -- the journal of a run of an image, unless it is refused by its reset address, and nothing else

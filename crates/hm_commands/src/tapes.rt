@@ -18,7 +18,7 @@ use crate::images::read_any;
 use crate::work::{Finish, Stop};
 use hm_base::Image;
 use hm_debug::{check_script, script};
-use hm_journal::{Journal, JournalErr, compare, read_journal, write_journal};
+use hm_journal::{Journal, JournalErr, MOST_CHECKPOINTS, compare, read_journal, write_journal};
 use hm_machine::{Machine, Tape};
 use hm_sched::{SchedErr, Schedule, parse, plain};
 use hm_words::{Every, Source, Ticks};
@@ -109,7 +109,7 @@ fn write<'a>(alloc: Global, input: RunInput, every: Every, out: &'a str) -> Resu
 {
     let RunInput { image, schedule } = input;
     // One with too many checkpoints is refused before the run, but behind the reset address.
-    if schedule.ticks() / every.ticks + 1 > 64 {
+    if schedule.ticks() / every.ticks + 1 > MOST_CHECKPOINTS {
         Machine::load(alloc, &image, schedule)?;
         return Err(Stop::from(JournalErr::TooMany));
     }

@@ -7,7 +7,7 @@ use Rattle.hm_handlers.specs.Runs.{run_out}
 use Rattle.hm_sched.specs.Schedule.{Sched, most_ticks, ticks_of}
 use Rattle.hm_journal.proofs.Pairs.{one_more_tick}
 use Rattle.hm_journal.proofs.RunTicks.{few_ticks}
-use Rattle.hm_journal.specs.Journals.{IsJournal, ReportAt}
+use Rattle.hm_journal.specs.Journals.{IsJournal, ReportAt, most_checkpoints}
 use Rattle.hm_journal.specs.Runs.{AreOfRun, first_checkpoints, journal_of, report_at}
 
 -- what holds of each holds of each with one more at the end
@@ -73,7 +73,7 @@ module _ (listing : Listing) (image : List Segment) (s : Sched) (every : ℕ) wh
       record { begun = omega (arith, fits, tick); report = at.report_is ∙ ap (report_at listing image s) (sym tick) }
 
   -- and one that there is, where it is not too long
-  pub sound : 1 ≤ every → every ≤ most_ticks → length (ticks_of s.lines) / every + 1 ≤ 64 → IsJournal (journal_of listing image s every)
+  pub sound : 1 ≤ every → every ≤ most_ticks → length (ticks_of s.lines) / every + 1 ≤ most_checkpoints → IsJournal (journal_of listing image s every)
   sound some most few =
       let last = (run_out listing image s).ticks in
       let n = last / every + 1 in

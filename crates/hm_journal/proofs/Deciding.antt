@@ -6,7 +6,7 @@ use Rattle.serde_json.specs.Data.{unsigned}
 use Rattle.serde_json.specs.View.{items_of}
 use Rattle.hm_sched.specs.Schedule.{most_ticks}
 use Rattle.hm_journal.proofs.Pairs.{items_same}
-use Rattle.hm_journal.specs.Journals.{IsFormat, IsJournal, Journaled, ReportAt, checkpoint_data, journal_data}
+use Rattle.hm_journal.specs.Journals.{IsFormat, IsJournal, Journaled, ReportAt, checkpoint_data, journal_data, most_checkpoints}
 
 -- an x of which P holds, or that P holds of none
 abbrev pub OrNone : (A : Type 0) → (A → Type 0) → Type 0
@@ -142,7 +142,7 @@ sound_or j =
           elim (cases_lt 0 (length j.checkpoints)) [
             | inr none ↦ inr (λ is. let some = is.some in omega (arith, none, some))
             | inl some ↦
-                elim (cases_lt 64 (length j.checkpoints)) [
+                elim (cases_lt most_checkpoints (length j.checkpoints)) [
                   | inl many ↦ inr (λ is. let few = is.few in omega (arith, many, few))
                   | inr few ↦
                       elim (cases_lt 0 j.every) [

@@ -56,11 +56,15 @@ IsFormat n = (n ≡ 1) ⊎ (n ≡ 2)
 abbrev pub AreTicks : Journaled → Type 0
 AreTicks j = (k : ℕ) (x : ReportAt) → slice_get j.checkpoints k ≡ Some x → x.tick ≡ k * j.every
 
--- which there are: of a known format, with 1 to 64 checkpoints, and from one to the next 1 tick to as many as a schedule may have
+-- a journal has no more checkpoints
+abbrev pub most_checkpoints : ℕ
+most_checkpoints = 64
+
+-- which there are: of a known format, with 1 to `most_checkpoints` checkpoints, and from one to the next 1 tick to as many as a schedule may have
 pub record IsJournal (j : Journaled) : Type 0 where
   pub format : IsFormat j.format
   pub some : 0 < length j.checkpoints
-  pub few : length j.checkpoints ≤ 64
+  pub few : length j.checkpoints ≤ most_checkpoints
   pub every : 0 < j.every
   pub most : j.every ≤ most_ticks
   pub ticks : AreTicks j

@@ -8,7 +8,7 @@ use Rattle.hm_run.specs.Timed.{Timed}
 use Rattle.hm_sched.specs.Schedule.{Sched, ticks_of}
 use Rattle.hm_state.specs.State.{regs_of}
 use Rattle.hm_journal.specs.Formats.{report_in, without_system}
-use Rattle.hm_journal.specs.Journals.{Journaled, ReportAt}
+use Rattle.hm_journal.specs.Journals.{Journaled, ReportAt, most_checkpoints}
 use Rattle.hm_journal.specs.declared.journal.JournalErr.{JournalErr}
 use Rattle.hm_journal.specs.declared.journal.JournalErr.TheVariants as err
 
@@ -29,9 +29,9 @@ journal_of listing image s every = record {
   checkpoints = first_checkpoints (report_at listing image s) every ((run_out listing image s).ticks / every + 1);
 }
 
--- a run that began all the ticks of the schedule would have more than 64
+-- a run that began all the ticks of the schedule would have more than `most_checkpoints`
 abbrev pub IsTooMany : Sched → ℕ → Type 0
-IsTooMany s every = 64 < length (ticks_of s.lines) / every + 1
+IsTooMany s every = most_checkpoints < length (ticks_of s.lines) / every + 1
 
 -- what an error of writing tells: want of memory tells nothing
 abbrev pub IsWriteErr : Sched → ℕ → JournalErr → Type 0

@@ -8,7 +8,7 @@ mod reading;
 mod running;
 mod writing;
 
-pub use journal::{Journal, JournalErr};
+pub use journal::{Journal, JournalErr, MOST_CHECKPOINTS};
 pub use laws::{comparison_law, first_format_law, journal_law, own_journal_law};
 pub use reading::read_journal;
 pub use running::{compare, write_journal};

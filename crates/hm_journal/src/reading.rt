@@ -6,7 +6,7 @@ ghost use Rattle.serde_json.specs.Find.{as_array, get};
 ghost use Rattle.serde_json.specs.Errors.{IsMemory};
 ghost use Rattle.serde_json.specs.View.{items_view, view};
 ghost use Rattle.hm_journal.specs.Journals.{AreSmall, AreTicks, HasFormat, IsFormat, IsJournal, IsJournalFile, number_at, ReportAt, Journaled, journal_data};
-ghost use Rattle.hm_journal.specs.Journals.{checkpoint_data};
+ghost use Rattle.hm_journal.specs.Journals.{checkpoint_data, most_checkpoints};
 ghost use Rattle.hm_journal.specs.Outcomes.{IsReadErr};
 ghost use Rattle.hm_journal.specs.Views.{checkpoint_of, journal_with, drafted};
 
@@ -91,7 +91,7 @@ fn draft_in(alloc: Global, value: &Value, format: u32) -> Result<Option<Draft>, 
 
 /// Whether the checkpoints lie at the ticks 0, `every`, twice that and so on.
 fn has_ticks(d: &Draft) -> bool
-    requires { length d.now.checkpoints.items ≤ 64 }
+    requires { length d.now.checkpoints.items ≤ most_checkpoints }
     ensures { IsTrue result ↔ AreTicks (drafted d.now) }
 {
     let mut tick = 0_u64;

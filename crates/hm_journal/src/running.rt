@@ -3,7 +3,7 @@
 ghost use Rattle.std.specs.Prelude.{◌≡◌, ◌↔◌, ℕ, ◌*◌, ◌/◌, ◌+◌, ◌≤◌, List, length, map, string_bytes, IfOk, IfErr, OnOk, IsTrue};
 ghost use Rattle.hm_base.specs.Image.{Segment, flash_byte};
 ghost use Rattle.hm_codes.specs.Listing.{Listing, IsListing};
-ghost use Rattle.hm_journal.specs.Journals.{IsJournalFile, journal_text};
+ghost use Rattle.hm_journal.specs.Journals.{IsJournalFile, journal_text, most_checkpoints};
 ghost use Rattle.hm_journal.specs.Runs.{AreOfRun, IsCompareErr, IsOfRun, IsWriteErr, journal_of, report_at};
 ghost use Rattle.hm_journal.specs.Views.{checkpoint_of};
 ghost use Rattle.hm_machine.specs.Taped.{Tapes};
@@ -54,13 +54,13 @@ fn checkpoints(alloc: Global, tape: &mut Tape, every: u32) -> Result<Vec<Checkpo
 }
 
 /// Writes the journal of the run, of format 2, with a checkpoint at tick 0 and from there on at each so many ticks. TooMany exactly where the ticks
-/// of the schedule, divided by `every`, and one more are more than 64. The tape is as it was.
+/// of the schedule, divided by `every`, and one more are more than `MOST_CHECKPOINTS`. The tape is as it was.
 pub fn write_journal(alloc: Global, tape: &mut Tape, every: u32) -> Result<Vec<u8>, JournalErr>
     requires some { 1 ≤ every }
     ensures stays { tape.new ≡ tape.old }
     ensures text { IfOk result (λ out. (image : List Segment) (s : Sched) (listing : Listing) → IsListing (flash_byte image) listing → Tapes image s tape.old
         → out.items ≡ journal_text (journal_of listing image s every)) }
-    ensures few { OnOk result ((image : List Segment) (s : Sched) → Tapes image s tape.old → length (ticks_of s.lines) / every + 1 ≤ 64) }
+    ensures few { OnOk result ((image : List Segment) (s : Sched) → Tapes image s tape.old → length (ticks_of s.lines) / every + 1 ≤ most_checkpoints) }
     ensures refused { IfErr result (λ e. (image : List Segment) (s : Sched) → Tapes image s tape.old → IsWriteErr s every e) }
     // It is read back, where it is read at all.
     ensures reads_back { IfOk result

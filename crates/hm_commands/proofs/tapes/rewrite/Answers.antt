@@ -1,7 +1,7 @@
 use Rattle.std.proofs.Common.{◌≤◌, ◌/◌, ◌+◌, ℕ, length, ap, sym, subst, ◌∙◌}
 use Rattle.std.proofs.lemmas.Result.{err_from_is_err_and}
 use Rattle.hm_journal.specs.Runs.{IsWriteErr, journal_of}
-use Rattle.hm_journal.specs.Journals.{journal_text}
+use Rattle.hm_journal.specs.Journals.{journal_text, most_checkpoints}
 use Rattle.hm_machine.specs.Taped.{Tapes}
 use Rattle.hm_sched.specs.Schedule.{ticks_of}
 use Rattle.hm_commands.specs.Commands.{journal_written}
@@ -46,7 +46,7 @@ returns c =
     let tape = c.in_ok-tape.ensures in
     let tapes = subst (Tapes image s) (sym c.in_ok-compare.ensures.stays) tape.tapes in
     let every = c.every.ensures.value in
-    let few = subst (λ (n : ℕ). length (ticks_of s.lines) / n + 1 ≤ 64) every (c.in_ok-bytes.ensures.few image s tapes) in
+    let few = subst (λ (n : ℕ). length (ticks_of s.lines) / n + 1 ≤ most_checkpoints) every (c.in_ok-bytes.ensures.few image s tapes) in
     record {
       outcome = λ listings are.
           rw c.written.ensures.value (again_written listings image s j.every c.args.out.now j c.in_ok-bytes.bytes.items tape.odd
