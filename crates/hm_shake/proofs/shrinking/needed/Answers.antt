@@ -1,4 +1,4 @@
-use Rattle.std.proofs.Common.{◌≤◌, ap, arith, refl, subst}
+use Rattle.std.proofs.Common.{ap, arith, refl, subst}
 use Rattle.std.specs.List.{All}
 use Rattle.hm_sched.specs.Schedule.{most_irq}
 use Rattle.hm_shake.proofs.Ends.{some_at}
