@@ -1,15 +1,14 @@
 -- Sums of whole registers in two registers are those of their words, one after another.
-use Rattle.std.proofs.Common.{◌≡◌, ℕ, ◌+◌, ◌-◌, ◌*◌, ◌/◌, ◌%◌, ◌^◌, Bool, false, not, ◌&&◌, ◌⊎◌, inl, inr, cond, eqb, ltb, List, ◌++◌, refl, sym, ◌∙◌, ap}
+use Rattle.std.proofs.Common.{◌≡◌, ℕ, ◌+◌, ◌-◌, ◌*◌, ◌/◌, ◌%◌, ◌^◌, Bool, false, ◌⊎◌, inl, inr, cond, eqb, ltb, List, ◌++◌, refl, sym, ◌∙◌, ap}
 use Rattle.std.proofs.Common.{arith, ne_eqb, eq-eqb}
 use Rattle.hm_base.specs.Place.{fit}
 use Rattle.hm_base.specs.declared.Place.TheVariants.{R, Mask01, Mask23, P0, Ltp}
-use Rattle.hm_lane.specs.Lanes.{bytes_of, firsts, lanes}
 use Rattle.hm_state.specs.Store.{put, put_all}
 use Rattle.hm_state.specs.State.{At, Cell, State, Value, at, cells, same_cell, word}
 use Rattle.hm_beat.specs.Rows.{active_at, advance_half, retired, word_place}
 use Rattle.hm_kinds.specs.Row.{Row, ends_at, linked, row_by_words}
 use Rattle.hm_forms_across.specs.declared.long_sums.LongSums.{LongSums}
-use Rattle.hm_forms_across.specs.Forms.{added, long_row, term}
+use Rattle.hm_forms_across.specs.Forms.{long_row, sum_after, term}
 use Rattle.hm_lane_fns.specs.Registers.{advancing}
 use Rattle.hm_forms_across.specs.Registers.{long_writes}
 use Rattle.hm_lane_fns.proofs.Lanewise.{advances}
@@ -94,9 +93,8 @@ module _ (r : LongSums) (s : State) (runs : (ltb (at Ltp s) 4 ≡ false) ⊎ (eq
   active_3 v = active_any 3 (at Mask23 s) (at Ltp s) (at (R 14) (with_sum v)) (at (R 14) s) (at (P0 3) s) (left v)
 
   -- the sum after word b, from one in two parts
-  abbrev sum_after : ℕ → List Bool → ℕ → ℕ
-  sum_after b active v = added (2 ^ 64) (term r.terms) (firsts r.terms.z active) (lanes r.terms.z (bytes_of (x b))) (lanes r.terms.z (bytes_of (y b)))
-      (cond (not r.goes_on && eqb b 0) 0 v)
+  abbrev word_after : ℕ → List Bool → ℕ → ℕ
+  word_after b active v = sum_after (2 ^ 64) r.goes_on r.terms b active (x b) (y b) v
 
   abbrev put_fit : ℕ → State → State
   put_fit v t = put cells high (word (fit (R (2 * r.h.value + 1)) (v / 2 ^ 32))) (put cells low (word (fit (R (2 * r.l.value)) (v % 2 ^ 32))) t)
@@ -104,8 +102,8 @@ module _ (r : LongSums) (s : State) (runs : (ltb (at Ltp s) 4 ≡ false) ⊎ (eq
   fitted : (v : ℕ) (t : State) → put_fit v t ≡ put_sum v t
   fitted v t = λ j. put cells high (word (fit_high (v / 2 ^ 32) j)) (put cells low (word (fit_low (v % 2 ^ 32) j)) t)
 
-  step : (b v w : ℕ) → active_at b (with_sum v) ≡ active_at b s → sum_after b (active_at b s) v ≡ w → linked form_row b (with_sum v) ≡ with_sum w
-  step b v w e f = (λ j. put_fit (sum_after b (e j) (held v j)) (with_sum v)) ∙ (λ j. put_fit (f j) (with_sum v)) ∙ fitted w (with_sum v) ∙ put_again v w
+  step : (b v w : ℕ) → active_at b (with_sum v) ≡ active_at b s → word_after b (active_at b s) v ≡ w → linked form_row b (with_sum v) ≡ with_sum w
+  step b v w e f = (λ j. put_fit (word_after b (e j) (held v j)) (with_sum v)) ∙ (λ j. put_fit (f j) (with_sum v)) ∙ fitted w (with_sum v) ∙ put_again v w
 
   abbrev start : ℕ
   start = cond r.goes_on (at (R (2 * r.l.value)) s + 2 ^ 32 * at (R (2 * r.h.value + 1)) s) 0

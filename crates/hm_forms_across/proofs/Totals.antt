@@ -11,7 +11,7 @@ use Rattle.hm_state.specs.State.{At, State, at, cells, word}
 use Rattle.hm_beat.specs.Rows.{active_at, advance_half, predicate_at, retired, word_place}
 use Rattle.hm_kinds.specs.Row.{Row, ends_at, linked, row_by_words}
 use Rattle.hm_forms_across.specs.declared.sums.Sums.{Sums}
-use Rattle.hm_forms_across.specs.Forms.{added, sum_next, sum_row, term}
+use Rattle.hm_forms_across.specs.Forms.{added, sum_after, sum_row, term}
 use Rattle.hm_lane_fns.specs.Registers.{advancing}
 use Rattle.hm_forms_across.specs.Registers.{sum_writes}
 use Rattle.hm_lane_fns.proofs.Handed.{active_any, put_twice}
@@ -103,18 +103,19 @@ module _ (r : Sums) (s : State) (runs : (ltb (at Ltp s) 4 ≡ false) ⊎ (eqb (2
   active_3 : (v : ℕ) → active_at 3 (with_sum v) ≡ active_at 3 s
   active_3 v = active_any 3 (at Mask23 s) (at Ltp s) (at (R 14) (with_sum v)) (at (R 14) s) (at (P0 3) s) (left v)
 
-  abbrev sum_after : ℕ → List Bool → ℕ → ℕ
-  sum_after b active v = sum_next r b active (v ∷ x b ∷ y b ∷ [])
+  -- the sum after word b
+  abbrev word_after : ℕ → List Bool → ℕ → ℕ
+  word_after b active v = sum_after (2 ^ 32) r.goes_on r.terms b active (x b) (y b) v
 
   -- one more word
   next : (b v : ℕ) → linked form_row b (with_sum v)
-      ≡ put cells (At (R (2 * r.l.value))) (word (fit (R (2 * r.l.value)) (sum_after b (active_at b (with_sum v)) (at (R (2 * r.l.value)) (with_sum v)))))
+      ≡ put cells (At (R (2 * r.l.value))) (word (fit (R (2 * r.l.value)) (word_after b (active_at b (with_sum v)) (at (R (2 * r.l.value)) (with_sum v)))))
       (with_sum v)
   next b v = refl
 
-  step : (b v w : ℕ) → active_at b (with_sum v) ≡ active_at b s → sum_after b (active_at b s) v ≡ w → linked form_row b (with_sum v) ≡ with_sum w
+  step : (b v w : ℕ) → active_at b (with_sum v) ≡ active_at b s → word_after b (active_at b s) v ≡ w → linked form_row b (with_sum v) ≡ with_sum w
   step b v w e f = next b v
-      ∙ (λ j. put cells (At (R (2 * r.l.value))) (word (fit (R (2 * r.l.value)) (sum_after b (e j) (held v j)))) (with_sum v))
+      ∙ (λ j. put cells (At (R (2 * r.l.value))) (word (fit (R (2 * r.l.value)) (word_after b (e j) (held v j)))) (with_sum v))
       ∙ (λ j. put cells (At (R (2 * r.l.value))) (word (fit_is (f j) j)) (with_sum v))
       ∙ put_twice (At (R (2 * r.l.value))) (word v) (word w) s
 

@@ -25,10 +25,14 @@ added m f _ _ _ sum = sum
 abbrev pub term : Terms → ℕ → ℕ → ℕ
 term t x y = cond t.products (lane_product t.unsigned t.z x y) (extended_lane t.unsigned t.z y)
 
--- V22: the sum of VADDV or VMLADAV after beat b; one that does not go on from the register begins at 0 on the first beat
+-- V22: a sum modulo m after beat b; one that does not go on from its registers begins at 0 on the first beat
+abbrev pub sum_after : ℕ → Bool → Terms → ℕ → List Bool → ℕ → ℕ → ℕ → ℕ
+sum_after m goes_on t b active x y sum =
+    added m (term t) (firsts t.z active) (lanes t.z (bytes_of x)) (lanes t.z (bytes_of y)) (cond (not goes_on && eqb b 0) 0 sum)
+
+-- V22: the sum of VADDV or VMLADAV after beat b
 abbrev pub sum_next : Sums → ℕ → List Bool → List ℕ → ℕ
-sum_next r b active (sum ∷ x ∷ y ∷ vs) =
-    added (2 ^ 32) (term r.terms) (firsts r.terms.z active) (lanes r.terms.z (bytes_of x)) (lanes r.terms.z (bytes_of y)) (cond (not r.goes_on && eqb b 0) 0 sum)
+sum_next r b active (sum ∷ x ∷ y ∷ vs) = sum_after (2 ^ 32) r.goes_on r.terms b active x y sum
 sum_next r b active _ = 0
 
 -- V22: VADDV and VMLADAV, beat by beat (DDI0553, "VADDV" and "VMLADAV")
@@ -44,10 +48,9 @@ sum_row r = record {
 }
 
 -- A SUM OF 64 BITS
--- V22: the sum of VADDLV or VMLALDAV after beat b; one that does not go on from its registers begins at 0 on the first beat
+-- V22: the sum of VADDLV or VMLALDAV after beat b
 abbrev pub long_next : LongSums → ℕ → List Bool → List ℕ → ℕ
-long_next r b active (low ∷ high ∷ x ∷ y ∷ vs) =
-    added (2 ^ 64) (term r.terms) (firsts r.terms.z active) (lanes r.terms.z (bytes_of x)) (lanes r.terms.z (bytes_of y)) (cond (not r.goes_on && eqb b 0) 0 (low + 2 ^ 32 * high))
+long_next r b active (low ∷ high ∷ x ∷ y ∷ vs) = sum_after (2 ^ 64) r.goes_on r.terms b active x y (low + 2 ^ 32 * high)
 long_next r b active _ = 0
 
 -- V22: VADDLV and VMLALDAV, beat by beat (DDI0553, "VADDLV" and "VMLALDAV")

@@ -36,7 +36,8 @@ slices w reads f new s = refl
 one_bit : (p : Bool) → bit_of (not p) + bit_of p ≡ 1
 one_bit p = grind arith
 
-pub inverted_low : (mask : ℕ) (p q r t : Bool) (l : List Bool) → inverted_by mask (nibble (p ∷ q ∷ r ∷ t ∷ [])) ≡ nibble (inverted_half mask (p ∷ q ∷ r ∷ t ∷ l))
+pub inverted_low : (mask : ℕ) (p q r t : Bool) (l : List Bool)
+    → inverted_by mask (nibble (p ∷ q ∷ r ∷ t ∷ [])) ≡ nibble (inverted_half mask (p ∷ q ∷ r ∷ t ∷ l))
 inverted_low mask p q r t l = go (ltb 8 mask)
   where
     go : (x : Bool) → (let n = nibble (p ∷ q ∷ r ∷ t ∷ []) in cond x (15 - n) n ≡ nibble (cond x (negated (p ∷ q ∷ r ∷ t ∷ l)) (p ∷ q ∷ r ∷ t ∷ l)))
@@ -80,8 +81,8 @@ by_halves p new s =
     ∙ (λ j. retired (put_all cells
     ((W 0 (inverted_low m (p 0 0) (p 0 1) (p 0 2) (p 0 3) (quad p 1) j)
     ∷ W 1 (inverted_high m (p 0 0) (p 0 1) (p 0 2) (p 0 3) (p 1 0) (p 1 1) (p 1 2) (p 1 3) j) ∷ mask_after Mask01 m new)
-    ++ (W 2 (inverted_low n (p 2 0) (p 2 1) (p 2 2) (p 2 3) (quad p 3) j) ∷ W 3 (inverted_high n (p 2 0) (p 2 1) (p 2 2) (p 2 3) (p 3 0) (p 3 1) (p 3 2) (p 3 3) j)
-    ∷ mask_after Mask23 n new)) s))
+    ++ (W 2 (inverted_low n (p 2 0) (p 2 1) (p 2 2) (p 2 3) (quad p 3) j)
+    ∷ W 3 (inverted_high n (p 2 0) (p 2 1) (p 2 2) (p 2 3) (p 3 0) (p 3 1) (p 3 2) (p 3 3) j) ∷ mask_after Mask23 n new)) s))
 
 -- COMPARISONS
 abbrev pub tested : Size → (ℕ → ℕ → Bool) → List ℕ → List ℕ → List Bool → List Bool

@@ -15,8 +15,8 @@ put-requires-clause-free c =
     let m = memory_of c.args.m.now in
     let len = byte_count c.args.row.now.memory in
     let k = c.loop-e.e-index in
-    rw c.byte_count.ensures.value (stop_of-elsewhere (memory_of c.loop-e.m).around m.around Vector len (get_or c.args.es.now k none).addr (seen (memory_of c.loop-e.m))
-    (seen m) c.loop-e.invariant.kept.around
+    rw c.byte_count.ensures.value (stop_of-elsewhere (memory_of c.loop-e.m).around m.around Vector len (get_or c.args.es.now k none).addr
+    (seen (memory_of c.loop-e.m)) (seen m) c.loop-e.invariant.kept.around
     (stop_none m.around true len c.args.es.now k (seen m) (omega arith) (drop_none m.around true len c.args.es.now k (seen m) c.requires.free)).0)
 
 pub loop-e-preserved : goal.loop-e-preserved
