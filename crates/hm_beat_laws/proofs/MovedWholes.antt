@@ -1,6 +1,6 @@
 -- Where the elements that are active in the state are moved by the thread, and nothing is tainted, it is the whole instruction.
 use Rattle.std.specs.List.{flat_map}
-use Rattle.std.proofs.Common.{◌≡◌, ℕ, zero, suc, ◌+◌, ◌++◌, Bool, true, false, cond, List, [], ◌∷◌, Option, Some, None, Result, Ok, refl, sym, ◌∙◌, ap, arith}
+use Rattle.std.proofs.Common.{◌≡◌, ℕ, zero, suc, ◌+◌, ◌++◌, Bool, true, false, cond, List, [], ◌∷◌, Option, None, Result, Ok, refl, sym, ◌∙◌, ap, arith}
 use Rattle.std.proofs.Common.{append_assoc}
 use Rattle.std.specs.Option.{option_or}
 use Rattle.hm_base.specs.declared.Fault.{Fault}
@@ -14,7 +14,9 @@ use Rattle.hm_mem.specs.Devices.{byte_of}
 use Rattle.hm_mem.specs.Memory.{Around}
 use Rattle.hm_mem.specs.Seen.{as_stops, fault_kind, marks}
 use Rattle.hm_base.specs.Results.{unless}
+use Rattle.hm_base.proofs.Results.{unless_ok}
 use Rattle.hm_order.specs.Beats.{then}
+use Rattle.hm_order.proofs.Results.{ok_same}
 use Rattle.hm_state.specs.Store.{put, put_all}
 use Rattle.hm_state.specs.State.{At, Byte, Cell, State, Value, cells, same_cell}
 use Rattle.hm_beat.specs.Laws.{NoTaint}
@@ -145,10 +147,6 @@ moved_whole x t s thread clean =
     ∙ as_stop (fault_of t.store (byte_count t.memory) ps addrs) (after t s (transferred t ps addrs s))
 
 -- WHERE NO ELEMENT STOPS
-ran : (o : Option Stop) (u v : State) → ◌≡◌ {A = Result State Stop} (unless o (Ok u)) (Ok v) → (o ≡ None) × (u ≡ v)
-ran None u v h = (refl, cc)
-ran (Some e) u v h = (cc, cc)
-
 module _ (x : Around) (t : Transfer) (s u : State) (h : transfer_among x (are_moved t.register t.found s) t s ≡ Ok u) where
   abbrev ones : List Bool
   ones = are_moved t.register t.found s
@@ -160,7 +158,7 @@ module _ (x : Around) (t : Transfer) (s u : State) (h : transfer_among x (are_mo
   written = marked (marks x.actor) (moved_among t ones places s)
 
   is_done : (first_among (element_stop x t.store t.memory s) ones places ≡ None) × (after t s written ≡ u)
-  is_done = ran (first_among (element_stop x t.store t.memory s) ones places) (after t s written) u h
+  is_done = let ran = unless_ok (first_among (element_stop x t.store t.memory s) ones places) (Ok (after t s written)) u h in (ran.0, ok_same ran.1)
 
   whole_runs : transfer_whole t s ≡ Ok (after t s (transferred t ones places s))
   whole_runs = λ j. unless (no_fault x t.store t.memory s ones places is_done.0 j) (Ok (after t s (transferred t ones places s)))

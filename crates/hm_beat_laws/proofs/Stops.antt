@@ -1,7 +1,6 @@
 -- The first stop of a beat that loads or stores: its checks, element by element.
 use Rattle.std.proofs.Common.{◌≡◌, ℕ, zero, suc, ◌+◌, Bool, true, false, not, cond, ◌||◌, ◌&&◌, List, [], ◌∷◌, ◌++◌, get_or, if◌then◌else◌, Option, Some, None}
 use Rattle.std.proofs.Common.{refl, ◌∙◌, ap, arith, append_assoc}
-use Rattle.std.proofs.lemmas.Bool.Decides.{nat_tests}
 use Rattle.std.specs.Option.{option_or}
 use Rattle.hm_base.specs.declared.Fault.{Fault}
 use Rattle.hm_base.specs.declared.Stop.{Stop}
@@ -13,8 +12,8 @@ use Rattle.hm_mem.specs.declared.Access.TheVariants.{Vector}
 use Rattle.hm_mem.specs.declared.Actor.{Actor}
 use Rattle.hm_mem.specs.declared.Actor.TheVariants.{Thread, Handler, Entry}
 use Rattle.hm_mem.specs.Devices.{has_width, in_devices, tells_time, device_word}
-use Rattle.hm_moves.proofs.Accesses.{fault_free, in_memory, within}
-use Rattle.hm_mem.proofs.Stops.{neither_stops}
+use Rattle.hm_moves.proofs.Accesses.{in_memory, within}
+use Rattle.hm_mem.proofs.Stops.{fault_free, neither_stops, no_word}
 use Rattle.hm_whole.specs.Whole.{seen_in}
 use Rattle.hm_mem.specs.Memory.{Around}
 use Rattle.hm_mem.specs.Seen.{fault_kind, is_denied, is_kept, is_thread, is_unaligned, lies_in_flash, lies_in_memory, some_byte, stop_after}
@@ -137,9 +136,6 @@ active_stops f q g j (suc n) =
     one_stop f p (g j) (active_ones q (each_from g (j + 1) n)) ∙ ap (option_or (cond p (f (g j).addr) None)) (active_stops f q g (j + 1) n)
 
 -- WHERE NO ELEMENT STOPS there is no fault, also for the thread: a vector access reaches no device, so none that tells the time
-no_word : (a : ℕ) → in_devices a ≡ false → device_word a ≡ None
-no_word a out = grind (arith, nat_tests, out)
-
 timed : (p q r w s t y : Bool) (e f g k l : FaultKind) → (q ≡ false → t ≡ false)
     → (if p then Some e else (if q then Some f else (if r then Some g else (if w then Some k else (if y && not s && t then Some l else None))))) ≡ None
     → (if p then Some e else (if q then Some f else (if r then Some g else (if w then Some k else (if true && not s && t then Some l else None))))) ≡ None
@@ -167,6 +163,6 @@ no_fault x store y s (p ∷ ps) [] h = refl
 no_fault x store y s (p ∷ ps) (a ∷ addrs) h =
     let none = neither_stops (cond p (element_stop x store y s a) None) (first_among (element_stop x store y s) ps addrs) h in
     let free : element_stop x store y s a ≡ None → fault_after (fault_kind true Vector store (byte_count y) a) a ≡ None
-    = λ e. ap (λ k. fault_after k a) (thread_free (is_thread x.actor) store (byte_count y) a (fault_free x store (byte_count y) a (seen_in s) e)) in
+    = λ e. ap (λ k. fault_after k a) (thread_free (is_thread x.actor) store (byte_count y) a (fault_free x Vector store (byte_count y) a (seen_in s) e)) in
     λ j. option_or (where_none p (element_stop x store y s a) (fault_after (fault_kind true Vector store (byte_count y) a) a) free none.0 j)
     (no_fault x store y s ps addrs none.1 j)

@@ -8,14 +8,11 @@ use Rattle.hm_base.specs.declared.FaultKind.TheVariants as kind
 use Rattle.hm_lane.specs.declared.lanes.Size.{Size}
 use Rattle.hm_mem.specs.declared.Access.TheVariants.{Vector}
 use Rattle.hm_mem.specs.Devices.{byte_of, has_width, in_devices, device_word}
-use Rattle.hm_mem.specs.Memory.{Around}
-use Rattle.hm_mem.specs.Seen.{Seen, fault_kind, is_kept, is_thread, is_unaligned, lies_in_flash, lies_in_memory, lies_in_sram, stop_after, stop_of}
+use Rattle.hm_mem.specs.Seen.{fault_kind, is_unaligned, lies_in_flash, lies_in_memory, lies_in_sram}
+use Rattle.hm_mem.proofs.Stops.{no_word}
 use Rattle.hm_moves.specs.Moves.{byte_count}
 
 -- WHERE A VECTOR ACCESS LIES THAT HAS NO FAULT
-no_word : (a : ℕ) → in_devices a ≡ false → device_word a ≡ None
-no_word a out = grind (arith, nat_tests, out)
-
 some_none : {A P : Type 0} {x : A} → Some x ≡ None → P
 some_none e = cc
 
@@ -44,15 +41,6 @@ in_sram thread len a h = let both = in_memory thread true len a h in right (lies
     right : (p q : Bool) → (p || q) ≡ true → (true && p) ≡ false → q ≡ true
     right true q e f = cc
     right false q e f = e
-
--- what is no stop is no fault
-pub no_fault : (o : Option FaultKind) (kept store : Bool) (a : ℕ) → stop_after o kept store a ≡ None → o ≡ None
-no_fault None kept store a h = refl
-no_fault (Some k) kept store a h = some_none h
-
-pub fault_free : (x : Around) (store : Bool) (len a : ℕ) (s : Seen) → stop_of x Vector store len a s ≡ None
-    → fault_kind (is_thread x.actor) Vector store len a ≡ None
-fault_free x store len a s h = no_fault (fault_kind (is_thread x.actor) Vector store len a) (is_kept x.actor x.bounds store len a s) store a h
 
 -- addresses within the memory do not go past the last
 pub within : (z : Size) (a k : ℕ) → lies_in_memory (byte_count z) a ≡ true → k < byte_count z → (a + k) % 2 ^ 32 ≡ a + k

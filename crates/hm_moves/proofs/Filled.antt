@@ -27,8 +27,8 @@ use Rattle.hm_moves.specs.declared.elements.Element.{Element}
 use Rattle.hm_moves.specs.Coded.{filled_in, first_stop, old_word, word_puts}
 use Rattle.hm_moves.specs.Moves.{Moves, all_bytes_from, bytes_of_elements, elements_at, filled, is_word, laid, loaded_at, little_endian, stored_at, byte_count}
 use Rattle.hm_moves.specs.Moves.{words_from}
-use Rattle.hm_moves.proofs.Accesses.{fault_free, in_memory, within}
-use Rattle.hm_mem.proofs.Stops.{neither_stops}
+use Rattle.hm_moves.proofs.Accesses.{in_memory, within}
+use Rattle.hm_mem.proofs.Stops.{fault_free, neither_stops}
 
 -- BYTES
 taken : (y : Bool) (p q : ℕ) → y ≡ true → p ≡ (if y then p else q)
@@ -99,7 +99,8 @@ module _ (m : Memory) (r : Regs) (output : List ℕ) where
   filled_read i k (e ∷ es) cs free =
       let z = i.memory in
       let both = neither_stops (stop_of m.around Vector false (byte_count z) e.addr (seen m)) (first_stop m.around false (byte_count z) es (seen m)) free in
-      let lies = (in_memory (is_thread m.around.actor) false (byte_count z) e.addr (fault_free m.around false (byte_count z) e.addr (seen m) both.0)).0 in
+      let no_fault = fault_free m.around Vector false (byte_count z) e.addr (seen m) both.0 in
+      let lies = (in_memory (is_thread m.around.actor) false (byte_count z) e.addr no_fault).0 in
       let bs = span_bytes e.addr (byte_count z) in
       let rest = map Byte (bytes_of_elements z es) ++ cs in
       let xs = numbers (map s.cell rest) in

@@ -3,9 +3,9 @@ use Rattle.hm_mem.specs.declared.Access.TheVariants.{Vector}
 use Rattle.hm_mem.specs.Memory.{memory_of}
 use Rattle.hm_mem.specs.Seen.{after_store, is_thread, marks, seen}
 use Rattle.hm_moves.specs.Moves.{byte_count}
-use Rattle.hm_moves.proofs.Accesses.{fault_free, in_sram}
+use Rattle.hm_moves.proofs.Accesses.{in_sram}
 use Rattle.hm_mem.proofs.Elsewhere.{same_trans}
-use Rattle.hm_mem.proofs.Stops.{stop_of-elsewhere}
+use Rattle.hm_mem.proofs.Stops.{fault_free, stop_of-elsewhere}
 use Rattle.hm_moves.proofs.Loops.{drop_none, none, stop_none}
 use Rattle.hm_moves.proofs.Stored.{put_state, store_next}
 use Rattle.hm_moves.proofs.elements.store_all.Goals as goal
@@ -29,7 +29,7 @@ loop-e-preserved c =
     let low : k < length c.args.es.now = omega arith in
     let free = (stop_none m.around true (byte_count z) c.args.es.now k (seen m) low
     (drop_none m.around true (byte_count z) c.args.es.now k (seen m) c.requires.free)).0 in
-    let lies = in_sram (is_thread m.around.actor) (byte_count z) e.addr (fault_free m.around true (byte_count z) e.addr (seen m) free) in
+    let lies = in_sram (is_thread m.around.actor) (byte_count z) e.addr (fault_free m.around Vector true (byte_count z) e.addr (seen m) free) in
     record {
       state = λ r output.
           store_next t z c.args.es.now c.args.words.now k _ _ low
