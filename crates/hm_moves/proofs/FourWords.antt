@@ -236,19 +236,20 @@ module _ (y z : Size) (d : ℕ) (f : ℕ → ℕ → ℕ) (s : State) where
     abbrev filled_at : ℕ → ℕ
     filled_at b = filled (load y z sign w) 0 (of_beat b) (numbers (map s.cell (map Byte (moves.bytes_of_elements y (of_beat b)) ++ [])))
 
-    abbrev word_at : ℕ → List (Cell × Value)
-    word_at b = (At (word_place d b), word (filled_at b)) ∷ []
+    abbrev word_writes : ℕ → List (Cell × Value)
+    word_writes b = (At (word_place d b), word (filled_at b)) ∷ []
 
     -- a load of four words is that of their register
     pub loads_whole : (xs : List ℕ) → xs ≡ four_addresses z f → (ws vs : List (Cell × Value)) → ws ≡ vs
         → unless (first_fault false (byte_count y) of_all)
-        (Ok (ended (put_all cells ws (put_all cells (word_at 3) (put_all cells (word_at 2) (put_all cells (word_at 1) (put_all cells (word_at 0) s)))))))
+        (Ok (ended (put_all cells ws
+        (put_all cells (word_writes 3) (put_all cells (word_writes 2) (put_all cells (word_writes 1) (put_all cells (word_writes 0) s)))))))
         ≡ unless (fault_of false (byte_count y) are_active xs) (Ok (whole (write_register d (unlanes z (loaded_elements g are_active xs))) vs))
     loads_whole xs e ws vs h =
         let new : (b : ℕ) → filled_at b ≡ word_of (unlanes z (loaded_elements g (word_active z (active_at b s)) (each_from (f b) 0 (per_word z))))
         = λ b. filled_word (load y z sign w) s (active_at b s) (f b) in
         let register = write_register d (unlanes z (loaded_elements g are_active xs)) in
-        let loaded : word_at 0 ++ word_at 1 ++ word_at 2 ++ word_at 3 ≡ register
+        let loaded : word_writes 0 ++ word_writes 1 ++ word_writes 2 ++ word_writes 3 ≡ register
         = (λ j. (At (word_place d 0), word (new 0 j)) ∷ (At (word_place d 1), word (new 1 j)) ∷ (At (word_place d 2), word (new 2 j))
         ∷ (At (word_place d 3), word (new 3 j)) ∷ [])
         ∙ sym (four_loaded z d g (λ b. active_at b s) f) ∙ sym (λ j. write_register d (unlanes z (loaded_elements g (active_whole z s j) (e j)))) in
