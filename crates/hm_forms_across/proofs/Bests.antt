@@ -116,8 +116,8 @@ cut_below : (z : Size) (t : ℕ) → t % modulus z < modulus z
 cut_below z t = grind arith
 
 module _ (r : V23) (s : State) (runs : (ltb (at Ltp s) 4 ≡ false) ⊎ (eqb r.t.value 14 ≡ false)) where
-  abbrev form_row : Row
-  form_row = extreme_row r
+  abbrev this_row : Row
+  this_row = extreme_row r
 
   abbrev z : Size
   z = size_of r.z.value
@@ -163,7 +163,7 @@ module _ (r : V23) (s : State) (runs : (ltb (at Ltp s) 4 ≡ false) ⊎ (eqb r.t
   abbrev after : ℕ → List Bool → ℤ → ℤ
   after b active v = best r.name (firsts z active) (map (lane_value u z) (lanes z (bytes_of (x b)))) v
 
-  step : (b : ℕ) (v : ℤ) → Held u z v → active_at b (with_value v) ≡ active_at b s → linked form_row b (with_value v) ≡ with_value (B b v)
+  step : (b : ℕ) (v : ℤ) → Held u z v → active_at b (with_value v) ≡ active_at b s → linked this_row b (with_value v) ≡ with_value (B b v)
   step b v h e = (λ j. put cells place (word (fit (R r.t.value) (cut Word (after b (e j) (read_back v h j))))) (with_value v))
       ∙ (λ j. put cells place (word (fit_is (cut Word (B b v)) j)) (with_value v))
       ∙ put_twice place (word (cut Word v)) (word (cut Word (B b v))) s
@@ -192,24 +192,24 @@ module _ (r : V23) (s : State) (runs : (ltb (at Ltp s) 4 ≡ false) ⊎ (eqb r.t
   held_2 : Held u z v2
   held_2 = word_held r.name u s x z 2 v1 held_1
 
-  after_0 : linked form_row 0 s ≡ with_value v0
+  after_0 : linked this_row 0 s ≡ with_value v0
   after_0 = λ j. put cells place (word (fit_is (cut Word v0) j)) s
 
-  after_1 : linked form_row 1 (linked form_row 0 s) ≡ with_value v1
-  after_1 = ap (linked form_row 1) after_0 ∙ step 1 v0 held_0 (active_1 v0)
+  after_1 : linked this_row 1 (linked this_row 0 s) ≡ with_value v1
+  after_1 = ap (linked this_row 1) after_0 ∙ step 1 v0 held_0 (active_1 v0)
 
-  after_2 : linked form_row 2 (linked form_row 1 (linked form_row 0 s)) ≡ with_value v2
-  after_2 = ap (linked form_row 2) after_1 ∙ step 2 v1 held_1 (active_2 v1)
+  after_2 : linked this_row 2 (linked this_row 1 (linked this_row 0 s)) ≡ with_value v2
+  after_2 = ap (linked this_row 2) after_1 ∙ step 2 v1 held_1 (active_2 v1)
 
-  after_3 : linked form_row 3 (linked form_row 2 (linked form_row 1 (linked form_row 0 s))) ≡ with_value v3
-  after_3 = ap (linked form_row 3) after_2 ∙ step 3 v2 held_2 (active_3 v2)
+  after_3 : linked this_row 3 (linked this_row 2 (linked this_row 1 (linked this_row 0 s))) ≡ with_value v3
+  after_3 = ap (linked this_row 3) after_2 ∙ step 3 v2 held_2 (active_3 v2)
 
   abbrev over : State → State → State → State → State
-  over a b c d = retired (put_all cells (ends_at form_row 0 s ++ ends_at form_row 1 a ++ ends_at form_row 2 b ++ ends_at form_row 3 c) d)
+  over a b c d = retired (put_all cells (ends_at this_row 0 s ++ ends_at this_row 1 a ++ ends_at this_row 2 b ++ ends_at this_row 3 c) d)
 
-  pub extreme_is : row_by_words form_row s ≡ advancing (extreme_writes r s) s
+  pub extreme_is : row_by_words this_row s ≡ advancing (extreme_writes r s) s
   extreme_is = (λ j. over (after_0 j) (after_1 j) (after_2 j) (after_3 j))
-      ∙ ap retired (advances form_row s (with_value v3) refl refl)
+      ∙ ap retired (advances this_row s (with_value v3) refl refl)
       ∙ (λ j. retired (put_all cells (advance_half 0 s ++ advance_half 2 s) (put cells place (word (sym (fit_is (cut Word v3)) j)) s)))
       ∙ (λ j. retired (put_all cells (advance_half 0 s ++ advance_half 2 s)
       (put cells place (word (fit (R r.t.value) (cut Word (sym (whole_best r.name u s x z start) j)))) s)))

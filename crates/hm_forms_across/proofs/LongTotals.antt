@@ -20,8 +20,8 @@ joined : (v : ℕ) → v % 2 ^ 32 + 2 ^ 32 * (v / 2 ^ 32) ≡ v
 joined v = omega arith
 
 module _ (r : LongSums) (s : State) (runs : (ltb (at Ltp s) 4 ≡ false) ⊎ (eqb (2 * r.l.value) 14 ≡ false)) where
-  abbrev form_row : Row
-  form_row = long_row r
+  abbrev this_row : Row
+  this_row = long_row r
 
   abbrev low : Cell
   low = At (R (2 * r.l.value))
@@ -102,7 +102,7 @@ module _ (r : LongSums) (s : State) (runs : (ltb (at Ltp s) 4 ≡ false) ⊎ (eq
   fitted : (v : ℕ) (t : State) → put_fit v t ≡ put_sum v t
   fitted v t = λ j. put cells high (word (fit_high (v / 2 ^ 32) j)) (put cells low (word (fit_low (v % 2 ^ 32) j)) t)
 
-  step : (b v w : ℕ) → active_at b (with_sum v) ≡ active_at b s → word_after b (active_at b s) v ≡ w → linked form_row b (with_sum v) ≡ with_sum w
+  step : (b v w : ℕ) → active_at b (with_sum v) ≡ active_at b s → word_after b (active_at b s) v ≡ w → linked this_row b (with_sum v) ≡ with_sum w
   step b v w e f = (λ j. put_fit (word_after b (e j) (held v j)) (with_sum v)) ∙ (λ j. put_fit (f j) (with_sum v)) ∙ fitted w (with_sum v) ∙ put_again v w
 
   abbrev start : ℕ
@@ -120,23 +120,23 @@ module _ (r : LongSums) (s : State) (runs : (ltb (at Ltp s) 4 ≡ false) ⊎ (eq
   abbrev s3 : ℕ
   s3 = terms 3 s2
 
-  after_0 : linked form_row 0 s ≡ with_sum s0
+  after_0 : linked this_row 0 s ≡ with_sum s0
   after_0 = (λ j. put_fit (terms 0 (first_start r.goes_on (at (R (2 * r.l.value)) s + 2 ^ 32 * at (R (2 * r.h.value + 1)) s) j)) s) ∙ fitted s0 s
 
-  after_1 : linked form_row 1 (linked form_row 0 s) ≡ with_sum s1
-  after_1 = ap (linked form_row 1) after_0 ∙ step 1 s0 s1 (active_1 s0) (ap (terms 1) (later_start r.goes_on s0))
+  after_1 : linked this_row 1 (linked this_row 0 s) ≡ with_sum s1
+  after_1 = ap (linked this_row 1) after_0 ∙ step 1 s0 s1 (active_1 s0) (ap (terms 1) (later_start r.goes_on s0))
 
-  after_2 : linked form_row 2 (linked form_row 1 (linked form_row 0 s)) ≡ with_sum s2
-  after_2 = ap (linked form_row 2) after_1 ∙ step 2 s1 s2 (active_2 s1) (ap (terms 2) (later_start r.goes_on s1))
+  after_2 : linked this_row 2 (linked this_row 1 (linked this_row 0 s)) ≡ with_sum s2
+  after_2 = ap (linked this_row 2) after_1 ∙ step 2 s1 s2 (active_2 s1) (ap (terms 2) (later_start r.goes_on s1))
 
-  after_3 : linked form_row 3 (linked form_row 2 (linked form_row 1 (linked form_row 0 s))) ≡ with_sum s3
-  after_3 = ap (linked form_row 3) after_2 ∙ step 3 s2 s3 (active_3 s2) (ap (terms 3) (later_start r.goes_on s2))
+  after_3 : linked this_row 3 (linked this_row 2 (linked this_row 1 (linked this_row 0 s))) ≡ with_sum s3
+  after_3 = ap (linked this_row 3) after_2 ∙ step 3 s2 s3 (active_3 s2) (ap (terms 3) (later_start r.goes_on s2))
 
   abbrev over : State → State → State → State → State
-  over a b c d = retired (put_all cells (ends_at form_row 0 s ++ ends_at form_row 1 a ++ ends_at form_row 2 b ++ ends_at form_row 3 c) d)
+  over a b c d = retired (put_all cells (ends_at this_row 0 s ++ ends_at this_row 1 a ++ ends_at this_row 2 b ++ ends_at this_row 3 c) d)
 
-  pub long_is : row_by_words form_row s ≡ advancing (long_writes r s) s
+  pub long_is : row_by_words this_row s ≡ advancing (long_writes r s) s
   long_is = (λ j. over (after_0 j) (after_1 j) (after_2 j) (after_3 j))
-      ∙ ap retired (advances form_row s (with_sum s3) refl refl)
+      ∙ ap retired (advances this_row s (with_sum s3) refl refl)
       ∙ (λ j. retired (put_all cells (advance_half 0 s ++ advance_half 2 s) (sym (fitted s3 s) j)))
       ∙ (λ j. retired (put_all cells (advance_half 0 s ++ advance_half 2 s) (put_fit (sym (whole_added (2 ^ 64) (term r.terms) r.terms.z s x y start) j) s)))

@@ -64,8 +64,8 @@ pub first_start : (g : Bool) (v : ℕ) → cond (not g && true) 0 v ≡ cond g v
 first_start g v = grind arith
 
 module _ (r : Sums) (s : State) (runs : (ltb (at Ltp s) 4 ≡ false) ⊎ (eqb (2 * r.l.value) 14 ≡ false)) where
-  abbrev form_row : Row
-  form_row = sum_row r
+  abbrev this_row : Row
+  this_row = sum_row r
 
   abbrev x : ℕ → ℕ
   x b = at (word_place r.n.value b) s
@@ -108,12 +108,12 @@ module _ (r : Sums) (s : State) (runs : (ltb (at Ltp s) 4 ≡ false) ⊎ (eqb (2
   word_after b active v = sum_after (2 ^ 32) r.goes_on r.terms b active (x b) (y b) v
 
   -- one more word
-  next : (b v : ℕ) → linked form_row b (with_sum v)
+  next : (b v : ℕ) → linked this_row b (with_sum v)
       ≡ put cells (At (R (2 * r.l.value))) (word (fit (R (2 * r.l.value)) (word_after b (active_at b (with_sum v)) (at (R (2 * r.l.value)) (with_sum v)))))
       (with_sum v)
   next b v = refl
 
-  step : (b v w : ℕ) → active_at b (with_sum v) ≡ active_at b s → word_after b (active_at b s) v ≡ w → linked form_row b (with_sum v) ≡ with_sum w
+  step : (b v w : ℕ) → active_at b (with_sum v) ≡ active_at b s → word_after b (active_at b s) v ≡ w → linked this_row b (with_sum v) ≡ with_sum w
   step b v w e f = next b v
       ∙ (λ j. put cells (At (R (2 * r.l.value))) (word (fit (R (2 * r.l.value)) (word_after b (e j) (held v j)))) (with_sum v))
       ∙ (λ j. put cells (At (R (2 * r.l.value))) (word (fit_is (f j) j)) (with_sum v))
@@ -134,24 +134,24 @@ module _ (r : Sums) (s : State) (runs : (ltb (at Ltp s) 4 ≡ false) ⊎ (eqb (2
   abbrev s3 : ℕ
   s3 = terms 3 s2
 
-  after_0 : linked form_row 0 s ≡ with_sum s0
+  after_0 : linked this_row 0 s ≡ with_sum s0
   after_0 = λ j. put cells (At (R (2 * r.l.value))) (word (fit_is (terms 0 (first_start r.goes_on (at (R (2 * r.l.value)) s) j)) j)) s
 
-  after_1 : linked form_row 1 (linked form_row 0 s) ≡ with_sum s1
-  after_1 = ap (linked form_row 1) after_0 ∙ step 1 s0 s1 (active_1 s0) (ap (terms 1) (later_start r.goes_on s0))
+  after_1 : linked this_row 1 (linked this_row 0 s) ≡ with_sum s1
+  after_1 = ap (linked this_row 1) after_0 ∙ step 1 s0 s1 (active_1 s0) (ap (terms 1) (later_start r.goes_on s0))
 
-  after_2 : linked form_row 2 (linked form_row 1 (linked form_row 0 s)) ≡ with_sum s2
-  after_2 = ap (linked form_row 2) after_1 ∙ step 2 s1 s2 (active_2 s1) (ap (terms 2) (later_start r.goes_on s1))
+  after_2 : linked this_row 2 (linked this_row 1 (linked this_row 0 s)) ≡ with_sum s2
+  after_2 = ap (linked this_row 2) after_1 ∙ step 2 s1 s2 (active_2 s1) (ap (terms 2) (later_start r.goes_on s1))
 
-  after_3 : linked form_row 3 (linked form_row 2 (linked form_row 1 (linked form_row 0 s))) ≡ with_sum s3
-  after_3 = ap (linked form_row 3) after_2 ∙ step 3 s2 s3 (active_3 s2) (ap (terms 3) (later_start r.goes_on s2))
+  after_3 : linked this_row 3 (linked this_row 2 (linked this_row 1 (linked this_row 0 s))) ≡ with_sum s3
+  after_3 = ap (linked this_row 3) after_2 ∙ step 3 s2 s3 (active_3 s2) (ap (terms 3) (later_start r.goes_on s2))
 
   abbrev over : State → State → State → State → State
-  over a b c d = retired (put_all cells (ends_at form_row 0 s ++ ends_at form_row 1 a ++ ends_at form_row 2 b ++ ends_at form_row 3 c) d)
+  over a b c d = retired (put_all cells (ends_at this_row 0 s ++ ends_at this_row 1 a ++ ends_at this_row 2 b ++ ends_at this_row 3 c) d)
 
-  pub sum_is : row_by_words form_row s ≡ advancing (sum_writes r s) s
+  pub sum_is : row_by_words this_row s ≡ advancing (sum_writes r s) s
   sum_is = (λ j. over (after_0 j) (after_1 j) (after_2 j) (after_3 j))
-      ∙ ap retired (advances form_row s (with_sum s3) refl refl)
+      ∙ ap retired (advances this_row s (with_sum s3) refl refl)
       ∙ (λ j. retired (put_all cells (advance_half 0 s ++ advance_half 2 s) (put cells (At (R (2 * r.l.value))) (word (sym (fit_is s3) j)) s)))
       ∙ (λ j. retired (put_all cells (advance_half 0 s ++ advance_half 2 s)
       (put cells (At (R (2 * r.l.value))) (word (fit (R (2 * r.l.value)) (sym (whole_added (2 ^ 32) (term r.terms) r.terms.z s x y start) j))) s)))

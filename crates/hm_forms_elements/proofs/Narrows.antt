@@ -101,8 +101,8 @@ four_tests true false f x s = any_words (active_byte s) (λ b j. get_or (narrow_
 four_tests true true f x s = any_words (active_byte s) (λ b j. get_or (narrow_tests true true f (bytes_of (x b))) j false)
 
 module _ (r : V16) (s : State) where
-  abbrev form_row : Row
-  form_row = narrow_row r
+  abbrev this_row : Row
+  this_row = narrow_row r
 
   abbrev z : Bool
   z = nat_eq r.z.value 1
@@ -116,28 +116,28 @@ module _ (r : V16) (s : State) where
   abbrev x : ℕ → ℕ
   x b = at (word_place r.m.value b) s
 
-  marks : (mark_at form_row 0 s || mark_at form_row 1 s || mark_at form_row 2 s || mark_at form_row 3 s)
+  marks : (mark_at this_row 0 s || mark_at this_row 1 s || mark_at this_row 2 s || mark_at this_row 3 s)
       ≡ (narrow_saturates r.name && any_both (predicate_at s) (narrow_saturated r s))
   marks =
       let t = narrow_saturates r.name in
       let A : ℕ → Bool = λ b. any_both (active_at b s) (narrow_tests z odd r.name (bytes_of (x b))) in
-      let e : (b : ℕ) → mark_at form_row b s ≡ (t && A b) = λ b. marked_where t b (active_at b s) (values_at form_row b s) (λ k. narrow_mark r) in
+      let e : (b : ℕ) → mark_at this_row b s ≡ (t && A b) = λ b. marked_where t b (active_at b s) (values_at this_row b s) (λ k. narrow_mark r) in
       (λ j. e 0 j || e 1 j || e 2 j || e 3 j) ∙ and_four t (A 0) (A 1) (A 2) (A 3) ∙ ap (λ y. t && y) (sym (four_tests z odd r.name x s))
 
   abbrev merged_with : List ℕ → State
   merged_with u = put_all cells (write_register r.d.value (merged (predicate_at s) (register_at r.d.value s) u) ++ advance_half 0 s ++ advance_half 2 s) s
 
   abbrev ends : State → State
-  ends u = put_all cells (ends_at form_row 0 s ++ ends_at form_row 1 s ++ ends_at form_row 2 s ++ ends_at form_row 3 s) u
+  ends u = put_all cells (ends_at this_row 0 s ++ ends_at this_row 1 s ++ ends_at this_row 2 s ++ ends_at this_row 3 s) u
 
   merged_is : ends (put_all cells
-      (outs_at form_row 0 s (form_row.outs 0) ++ outs_at form_row 1 s (form_row.outs 1) ++ outs_at form_row 2 s (form_row.outs 2)
-      ++ outs_at form_row 3 s (form_row.outs 3)) s)
+      (outs_at this_row 0 s (this_row.outs 0) ++ outs_at this_row 1 s (this_row.outs 1) ++ outs_at this_row 2 s (this_row.outs 2)
+      ++ outs_at this_row 3 s (this_row.outs 3)) s)
       ≡ merged_with (narrow_result r s)
-  merged_is = advances form_row s
-      (put_all cells (outs_at form_row 0 s (form_row.outs 0) ++ outs_at form_row 1 s (form_row.outs 1) ++ outs_at form_row 2 s (form_row.outs 2)
-      ++ outs_at form_row 3 s (form_row.outs 3)) s) refl refl
+  merged_is = advances this_row s
+      (put_all cells (outs_at this_row 0 s (this_row.outs 0) ++ outs_at this_row 1 s (this_row.outs 1) ++ outs_at this_row 2 s (this_row.outs 2)
+      ++ outs_at this_row 3 s (this_row.outs 3)) s) refl refl
       ∙ ap merged_with (four_words z odd r.name old x)
 
-  pub narrow_is : row_by_words form_row s ≡ narrow_whole r s
+  pub narrow_is : row_by_words this_row s ≡ narrow_whole r s
   narrow_is = λ j. retired (flagged (marks j) (merged_is j))

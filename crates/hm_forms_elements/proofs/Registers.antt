@@ -42,14 +42,14 @@ abbrev merged_whole : ℕ → List ℕ → State → State
 merged_whole d result s = advancing (merges d result s) s
 
 module _ (w : Bool) (d : ℕ) (sources : ℕ → List Place) (f : ℕ → ℕ → List ℕ → ℕ) (s : State) where
-  abbrev form_row : Row
-  form_row = words_row w d sources f None
+  abbrev this_row : Row
+  this_row = words_row w d sources f None
 
   -- a row that merges words merges the bytes of the four
-  pub words_whole : row_by_words form_row s ≡ merged_whole d (words_result w d sources f s) s
-  words_whole = λ j. retired (advances form_row s
-      (put_all cells (outs_at form_row 0 s (form_row.outs 0) ++ outs_at form_row 1 s (form_row.outs 1) ++ outs_at form_row 2 s (form_row.outs 2)
-      ++ outs_at form_row 3 s (form_row.outs 3)) s) refl refl j)
+  pub words_whole : row_by_words this_row s ≡ merged_whole d (words_result w d sources f s) s
+  words_whole = λ j. retired (advances this_row s
+      (put_all cells (outs_at this_row 0 s (this_row.outs 0) ++ outs_at this_row 1 s (this_row.outs 1) ++ outs_at this_row 2 s (this_row.outs 2)
+      ++ outs_at this_row 3 s (this_row.outs 3)) s) refl refl j)
 
 -- NEIGHBOURS
 abbrev pub turn : (Bool → ℕ → ℕ → ℕ) → Size → Bool → List ℕ → List ℕ → List ℕ
