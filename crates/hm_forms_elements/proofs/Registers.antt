@@ -52,26 +52,27 @@ module _ (w : Bool) (d : ℕ) (sources : ℕ → List Place) (f : ℕ → ℕ �
       ++ outs_at this_row 3 s (this_row.outs 3)) s) refl refl j)
 
 -- NEIGHBOURS
-abbrev pub turn : (Bool → ℕ → ℕ → ℕ) → Size → Bool → List ℕ → List ℕ → List ℕ
-turn f z even v w = unlanes z (in_turn f even (lanes z v) (exchanged (lanes z w)))
+abbrev pub complex_sum_list : (Bool → ℕ → ℕ → ℕ) → Size → Bool → List ℕ → List ℕ → List ℕ
+complex_sum_list f z even v w = unlanes z (in_turn f even (lanes z v) (exchanged (lanes z w)))
 
 -- the bytes of one word are those of the word that they make
-turn_back : (f : Bool → ℕ → ℕ → ℕ) (z : Size) (even : Bool) (x y : ℕ)
-    → turn f z even (bytes_of x) (bytes_of y) ≡ bytes_of (word_of (turn f z even (bytes_of x) (bytes_of y)))
-turn_back f Byte even x y = bytes_of-word _ _ _ _ (omega arith) (omega arith) (omega arith) (omega arith)
-turn_back f z even x y = bytes_of-word _ _ _ _ (omega arith) (omega arith) (omega arith) (omega arith)
+complex_sum_back : (f : Bool → ℕ → ℕ → ℕ) (z : Size) (even : Bool) (x y : ℕ)
+    → complex_sum_list f z even (bytes_of x) (bytes_of y) ≡ bytes_of (word_of (complex_sum_list f z even (bytes_of x) (bytes_of y)))
+complex_sum_back f Byte even x y = bytes_of-word _ _ _ _ (omega arith) (omega arith) (omega arith) (omega arith)
+complex_sum_back f z even x y = bytes_of-word _ _ _ _ (omega arith) (omega arith) (omega arith) (omega arith)
 
-pub complex_sum_words : (z : ℕ) → z < 3 → (f : Bool → ℕ → ℕ → ℕ) (x y : ℕ → ℕ) → turn f (size_of z) true (four x) (four y)
-    ≡ four (λ b. word_of (turn f (size_of z) (not (nat_eq z 2) || eqb (b % 2) 0) (bytes_of (x b)) (bytes_of (y (cond (nat_eq z 2) (other_word b) b)))))
+pub complex_sum_words : (z : ℕ) → z < 3 → (f : Bool → ℕ → ℕ → ℕ) (x y : ℕ → ℕ) → complex_sum_list f (size_of z) true (four x) (four y)
+    ≡ four (λ b. word_of (complex_sum_list f (size_of z) (not (nat_eq z 2) || eqb (b % 2) 0) (bytes_of (x b))
+    (bytes_of (y (cond (nat_eq z 2) (other_word b) b)))))
 complex_sum_words zero h f x y =
-    λ j. turn_back f Byte true (x 0) (y 0) j ++ turn_back f Byte true (x 1) (y 1) j ++ turn_back f Byte true (x 2) (y 2) j
-    ++ turn_back f Byte true (x 3) (y 3) j
+    λ j. complex_sum_back f Byte true (x 0) (y 0) j ++ complex_sum_back f Byte true (x 1) (y 1) j ++ complex_sum_back f Byte true (x 2) (y 2) j
+    ++ complex_sum_back f Byte true (x 3) (y 3) j
 complex_sum_words (suc zero) h f x y =
-    λ j. turn_back f Half true (x 0) (y 0) j ++ turn_back f Half true (x 1) (y 1) j ++ turn_back f Half true (x 2) (y 2) j
-    ++ turn_back f Half true (x 3) (y 3) j
+    λ j. complex_sum_back f Half true (x 0) (y 0) j ++ complex_sum_back f Half true (x 1) (y 1) j ++ complex_sum_back f Half true (x 2) (y 2) j
+    ++ complex_sum_back f Half true (x 3) (y 3) j
 complex_sum_words (suc (suc zero)) h f x y =
-    λ j. turn_back f Word true (x 0) (y 1) j ++ turn_back f Word false (x 1) (y 0) j ++ turn_back f Word true (x 2) (y 3) j
-    ++ turn_back f Word false (x 3) (y 2) j
+    λ j. complex_sum_back f Word true (x 0) (y 1) j ++ complex_sum_back f Word false (x 1) (y 0) j ++ complex_sum_back f Word true (x 2) (y 3) j
+    ++ complex_sum_back f Word false (x 3) (y 2) j
 complex_sum_words (suc (suc (suc z))) h f x y = absurd (omega arith)
 
 pub complex_sum_is : (r : V9) (s : State) → row_by_words (complex_sum_row r) s ≡ merged_whole r.d.value (complex_sum_result r s) s

@@ -9,7 +9,7 @@ use Rattle.hm_isa.specs.declared.vectors.CarryName.{CarryName}
 use Rattle.hm_isa.specs.declared.vectors.CarryName.TheVariants as carry
 use Rattle.hm_isa.specs.declared.vectors.V9.{V9}
 use Rattle.hm_isa.specs.declared.vectors.ComplexSumName.{ComplexSumName}
-use Rattle.hm_isa.specs.declared.vectors.ComplexSumName.TheVariants as turn
+use Rattle.hm_isa.specs.declared.vectors.ComplexSumName.TheVariants as complex_sum
 use Rattle.hm_isa.specs.declared.vectors.V14.{V14}
 use Rattle.hm_isa.specs.declared.vectors.ReverseName.{ReverseName}
 use Rattle.hm_isa.specs.declared.vectors.ReverseName.TheVariants as rev
@@ -343,8 +343,8 @@ in_turn f even _ _ = []
 
 -- V9: whether results are halved: those of VHCADD are
 abbrev pub halves : ComplexSumName → Bool
-halves turn.Cadd = false
-halves turn.Hcadd = true
+halves complex_sum.Cadd = false
+halves complex_sum.Hcadd = true
 
 -- a neighbour is taken from even elements for 90, and from odd ones for 270, and added to the others
 abbrev pub takes_away : V9 → Bool → Bool
