@@ -1,24 +1,21 @@
 -- The whole of a form under 16 truth values in place of the predicate, by what it writes and whether it marks QC.
-use Rattle.std.proofs.Common.{ℕ, ◌+◌, ◌*◌, ◌/◌, ◌%◌, ◌^◌, Bool, false, ◌&&◌, cond, eqb, nat_eq, List, [], ◌∷◌, ◌++◌, map}
+use Rattle.std.proofs.Common.{ℕ, ◌+◌, ◌*◌, ◌/◌, Bool, false, ◌&&◌, cond, eqb, List, [], ◌∷◌, ◌++◌}
 use Rattle.hm_base.specs.declared.Place.TheVariants.{R, Carry}
 use Rattle.hm_isa.specs.declared.vectors.V8.{V8}
 use Rattle.hm_isa.specs.declared.vectors.V17.{V17}
-use Rattle.hm_isa.specs.declared.vectors.V23.{V23}
 use Rattle.hm_lane.specs.declared.lanes.Size.TheVariants.{Word}
-use Rattle.hm_lane.specs.Lanes.{firsts, merged, modulus, per_word, unlanes}
+use Rattle.hm_lane.specs.Lanes.{firsts, merged, per_word, unlanes}
 use Rattle.hm_regs.specs.Writes.{write}
 use Rattle.hm_state.specs.State.{Cell, State, Value, at, into}
 use Rattle.hm_beat.specs.Rows.{predicate_at, register_at, write_register}
-use Rattle.hm_lane_fns.specs.LaneFns.{cut, lane_value, saturates}
+use Rattle.hm_lane_fns.specs.LaneFns.{saturates}
 use Rattle.hm_lane_fns.specs.Words.{any_both, size_of}
-use Rattle.hm_forms_across.specs.declared.long_sums.LongSums.{LongSums}
 use Rattle.hm_forms_elements.specs.declared.offsets.Steps.{Steps}
-use Rattle.hm_forms_across.specs.declared.sums.Sums.{Sums}
 use Rattle.hm_forms.specs.declared.form.Form.{Form}
 use Rattle.hm_forms.specs.declared.form.Form.TheVariants as form
 use Rattle.hm_forms_elements.specs.Forms.{begins, narrow_saturates, offset_after, offsets_from, shift_of, subtracts}
-use Rattle.hm_forms_across.specs.Forms.{added, best, term}
-use Rattle.hm_lane_fns.specs.Registers.{elements, saturating}
+use Rattle.hm_forms_across.specs.Registers.{extreme_under, long_under, sum_under}
+use Rattle.hm_lane_fns.specs.Registers.{saturating}
 use Rattle.hm_forms_elements.specs.Registers.{bits_from, constant_result, flags_from, lanes_result, lanes_saturated, widening_result, narrow_result}
 use Rattle.hm_forms_elements.specs.Registers.{narrow_saturated, reversed_result, round_at, shifted_from, sums_from, complex_sum_result, wide_result}
 use Rattle.hm_forms_elements.specs.Registers.{words_at}
@@ -57,32 +54,6 @@ offsets_under ps r s =
     let result = unlanes r.z (offsets_from r (round_at r.round s) count (at place s)) in
     let next = offset_after r (round_at r.round s) count (at place s) in
     merges_under ps r.d.value result s ++ (into (write place next) ∷ [])
-
--- V22: what VADDV and VMLADAV write under these truth values (DDI0553, "VADDV" and "VMLADAV")
-abbrev pub sum_under : List Bool → Sums → State → List (Cell × Value)
-sum_under ps r s =
-    let place = R (2 * r.l.value) in
-    let start = cond r.goes_on (at place s) 0 in
-    let sum = added (2 ^ 32) (term r.terms) (firsts r.terms.z ps) (elements r.terms.z r.n.value s) (elements r.terms.z r.m.value s) start in
-    into (write place sum) ∷ []
-
--- V22: what VADDLV and VMLALDAV write under these truth values (DDI0553, "VADDLV" and "VMLALDAV")
-abbrev pub long_under : List Bool → LongSums → State → List (Cell × Value)
-long_under ps r s =
-    let low = R (2 * r.l.value) in
-    let high = R (2 * r.h.value + 1) in
-    let start = cond r.goes_on (at low s + 2 ^ 32 * at high s) 0 in
-    let sum = added (2 ^ 64) (term r.terms) (firsts r.terms.z ps) (elements r.terms.z r.n.value s) (elements r.terms.z r.m.value s) start in
-    into (write low (sum % 2 ^ 32)) ∷ into (write high (sum / 2 ^ 32)) ∷ []
-
--- V23: what VMAXV and VMINV write under these truth values (DDI0553, "VMAXV, VMAXAV" and "VMINV, VMINAV")
-abbrev pub extreme_under : List Bool → V23 → State → List (Cell × Value)
-extreme_under ps r s =
-    let z = size_of r.z.value in
-    let u = nat_eq r.u.value 1 in
-    let place = R r.t.value in
-    let extreme = best r.name (firsts z ps) (map (lane_value u z) (elements z r.m.value s)) (lane_value u z (at place s % modulus z)) in
-    into (write place (cut Word extreme)) ∷ []
 
 -- what a form writes under these truth values, beside P0 and the masks
 abbrev pub writes_under : List Bool → Form → State → List (Cell × Value)
