@@ -17,7 +17,7 @@ use Rattle.hm_beat.specs.Rows.{predicate_at, register_at, write_register}
 use Rattle.hm_beat.specs.Touches.{span_bytes}
 use Rattle.hm_lane_fns.specs.Registers.{advancing, saturating}
 use Rattle.hm_moves.specs.Moves.{as_loaded, byte_count}
-use Rattle.hm_moves.specs.Ways.{Found, Transfer, at_addresses, at_offsets, interleaved, moves_by, straight, way_predicated}
+use Rattle.hm_moves.specs.Ways.{Found, Transfer, at_addresses, at_offsets, contiguous, interleaved, moves_by, way_predicated}
 use Rattle.hm_moves.specs.Wholes.{addresses, are_moved, element_bytes, filled_registers, loaded, loaded_elements, number_bytes, read_at, stored_elements}
 use Rattle.hm_moves.specs.Wholes.{transfer_whole, written_back}
 use Rattle.hm_beat_laws.specs.Exceptions.{element_stop, keeps_others, marked, with_predicate}
@@ -89,7 +89,7 @@ module _ (x : Around) (store : Bool) (y z : Size) (sign : Bool) (b : ℕ) (low :
   IsAloneMove w = move_part x (moves w) b s ≡ then (transfer_among x (are_moved z w u) (moves w) u) (λ v. Ok (part_of f (with_predicate (advancing [] s) v) s))
 
   -- the active elements of word b, as they are active where it is so alone
-  ones : moved_ones z (straight 0 0 0 true true) b s ≡ firsts z (predicate_at u)
+  ones : moved_ones z (contiguous 0 0 0 true true) b s ≡ firsts z (predicate_at u)
   ones = ones_are z b s ∙ (λ j. firsts z (sym (alone_is s b low) j))
 
   -- a register gets elements, or bytes do
@@ -119,8 +119,8 @@ module _ (x : Around) (store : Bool) (y z : Size) (sign : Bool) (b : ℕ) (low :
       plain
 
   alone_move : (w : Found) → way_predicated w ≡ true → IsAloneMove w
-  alone_move (straight d n offset before back) h =
-      let w = straight d n offset before back in
+  alone_move (contiguous d n offset before back) h =
+      let w = contiguous d n offset before back in
       by_ones w ones refl refl refl refl (plain_all w d (written_back w s) (plain_either back _ [] (refl, tt) tt))
   alone_move (at_offsets d n m scale) h =
       let w = at_offsets d n m scale in

@@ -25,7 +25,7 @@ use Rattle.hm_beat.specs.Touches.{span_bytes}
 use Rattle.hm_kinds.proofs.Row.{pc-put_all}
 use Rattle.hm_moves.specs.declared.elements.Element.{Element}
 use Rattle.hm_moves.specs.Moves.{fault_after, byte_count}
-use Rattle.hm_moves.specs.Ways.{Found, Transfer, at_addresses, at_offsets, each_from, interleaved, registers, straight}
+use Rattle.hm_moves.specs.Ways.{Found, Transfer, at_addresses, at_offsets, contiguous, each_from, interleaved, registers}
 use Rattle.hm_moves.specs.Wholes.{addresses, are_moved, count, element_bytes, fault_of, filled_registers, loaded, loaded_elements, number_bytes, part_word}
 use Rattle.hm_moves.specs.Wholes.{stored_elements, taken_by, transfer_whole, transferred, written_back}
 use Rattle.hm_moves.proofs.Trees.{checked_clean, fault_stop}
@@ -85,7 +85,7 @@ clean_turns d k parts i (suc n) =
     ∙ (λ j. marked_words false (d + i) k (parts i) j ++ clean_turns d k parts (i + 1) n j)
 
 clean_registers : (z : Size) (w : Found) (xs : List ℕ) → marked false (filled_registers z w xs) ≡ filled_registers z w xs
-clean_registers z (straight d n offset before back) xs = marked_words false d 0 (words (unlanes z xs))
+clean_registers z (contiguous d n offset before back) xs = marked_words false d 0 (words (unlanes z xs))
 clean_registers z (at_offsets d n m scale) xs = marked_words false d 0 (words (unlanes z xs))
 clean_registers z (at_addresses d m offset back) xs = marked_words false d 0 (words (unlanes z xs))
 clean_registers z (interleaved d n four part back) xs =
@@ -109,7 +109,7 @@ all_loaded y z d n four part back v s = refl
 all_moved : (store : Bool) (y z : Size) (sign : Bool) (w : Found) (s : State)
     → (let t : Transfer = record { store = store; memory = y; register = z; signed = sign; found = w } in
     moved_among t (are_moved z w s) (addresses y z w s) s ≡ transferred t (are_moved z w s) (addresses y z w s) s)
-all_moved store y z sign (straight d n offset before back) s = refl
+all_moved store y z sign (contiguous d n offset before back) s = refl
 all_moved store y z sign (at_offsets d n m scale) s = refl
 all_moved store y z sign (at_addresses d m offset back) s = refl
 all_moved true y z sign (interleaved d n four part back) s = refl

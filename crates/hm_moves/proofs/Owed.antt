@@ -11,7 +11,7 @@ use Rattle.hm_kinds.specs.Row.{is_body}
 use Rattle.hm_moves.specs.Moves.{IsMoves, SparesLr, Unwritten, is_word, byte_count}
 use Rattle.hm_lane.specs.Lanes.{per_word}
 use Rattle.hm_moves.specs.Ways.{Found, Transfer, at_addresses, at_offsets, each_from, interleaved, moves_by, registers, stream, way_back, way_sources}
-use Rattle.hm_moves.specs.Ways.{way_words, way_writes_lr, straight}
+use Rattle.hm_moves.specs.Ways.{way_words, way_writes_lr, contiguous}
 
 -- word k of a register is no later word of it or of another
 word_off : (d n b k : ℕ) → k < b → b < 4 → same_place (word_place d k) (word_place n b) ≡ false
@@ -22,13 +22,13 @@ each_word f g j zero = tt
 each_word f g j (suc n) = (refl, each_word f g (j + 1) n)
 
 sources_body : (w : Found) (b : ℕ) → Each (λ (p : Place). is_body p ≡ true) (way_sources w b)
-sources_body (straight d n offset before back) b = (refl, tt)
+sources_body (contiguous d n offset before back) b = (refl, tt)
 sources_body (at_offsets d n m scale) b = (refl, (refl, tt))
 sources_body (at_addresses d m offset back) b = (refl, tt)
 sources_body (interleaved d n four part back) b = (refl, tt)
 
 are_words : (z : Size) (w : Found) (b : ℕ) → Each (λ (p : Place). is_word p ≡ true) (way_words z w b)
-are_words z (straight d n offset before back) b = (refl, tt)
+are_words z (contiguous d n offset before back) b = (refl, tt)
 are_words z (at_offsets d n m scale) b = (refl, tt)
 are_words z (at_addresses d m offset back) b = (refl, tt)
 are_words z (interleaved d n four part back) b =
@@ -40,7 +40,7 @@ body_where true p x h = (h, tt)
 body_where false p x h = tt
 
 back_body : (w : Found) (b : ℕ) (ns : List ℕ) → Each (λ (v : Write). is_body v.place ≡ true) (way_back w b ns)
-back_body (straight d n offset before back) b ns = body_where (back && eqb b 3) (R n) _ refl
+back_body (contiguous d n offset before back) b ns = body_where (back && eqb b 3) (R n) _ refl
 back_body (at_offsets d n m scale) b ns = tt
 back_body (at_addresses d m offset back) b ns = body_where back (word_place m b) _ refl
 back_body (interleaved d n four part back) b ns = body_where (back && eqb b 3) (R n) _ refl
@@ -63,8 +63,8 @@ word_unwritten true m n b k x low high = (word_off m n b k low high, tt)
 word_unwritten false m n b k x low high = tt
 
 unsourced : (w : Found) (b k : ℕ) (ns : List ℕ) → k < b → b < 4 → Each (λ (p : Place). Unwritten p (way_back w k ns)) (way_sources w b)
-unsourced (straight d n offset before back) b k ns low high =
-    every (λ p. Unwritten p (way_back (straight d n offset before back) k ns)) (way_sources (straight d n offset before back) b)
+unsourced (contiguous d n offset before back) b k ns low high =
+    every (λ p. Unwritten p (way_back (contiguous d n offset before back) k ns)) (way_sources (contiguous d n offset before back) b)
     (λ p. not_last k back p (R n) _ (omega arith))
 unsourced (at_offsets d n m scale) b k ns low high = (tt, (tt, tt))
 unsourced (at_addresses d m offset back) b k ns low high = (word_unwritten back m m b k _ low high, tt)
@@ -73,8 +73,8 @@ unsourced (interleaved d n four part back) b k ns low high =
     (λ p. not_last k back p (R n) _ (omega arith))
 
 unread : (z : Size) (w : Found) (b k : ℕ) (ns : List ℕ) → k < b → b < 4 → Each (λ (p : Place). Unwritten p (way_back w k ns)) (way_words z w b)
-unread z (straight d n offset before back) b k ns low high =
-    every (λ p. Unwritten p (way_back (straight d n offset before back) k ns)) (way_words z (straight d n offset before back) b)
+unread z (contiguous d n offset before back) b k ns low high =
+    every (λ p. Unwritten p (way_back (contiguous d n offset before back) k ns)) (way_words z (contiguous d n offset before back) b)
     (λ p. not_last k back p (R n) _ (omega arith))
 unread z (at_offsets d n m scale) b k ns low high = (tt, tt)
 unread z (at_addresses d m offset back) b k ns low high = (word_unwritten back m d b k _ low high, tt)
@@ -88,7 +88,7 @@ no_register f g r j (suc n) = (refl, no_register f g r (j + 1) n)
 
 unfilled : (z : Size) (w : Found) (b k : ℕ) → k < b → b < 4
     → Each (λ (p : Place). Each (λ (q : Place). same_place q p ≡ false) (way_words z w k)) (way_sources w b)
-unfilled z (straight d n offset before back) b k low high = ((refl, tt), tt)
+unfilled z (contiguous d n offset before back) b k low high = ((refl, tt), tt)
 unfilled z (at_offsets d n m scale) b k low high = ((refl, tt), ((word_off d m b k low high, tt), tt))
 unfilled z (at_addresses d m offset back) b k low high = ((word_off d m b k low high, tt), tt)
 unfilled z (interleaved d n four part back) b k low high = (
@@ -102,7 +102,7 @@ word_spares true m k x = (refl, tt)
 word_spares false m k x = tt
 
 early : (w : Found) (k : ℕ) (ns : List ℕ) → k < 3 → Unwritten (R 14) (way_back w k ns)
-early (straight d n offset before back) k ns h = not_last k back (R 14) (R n) _ h
+early (contiguous d n offset before back) k ns h = not_last k back (R 14) (R n) _ h
 early (at_offsets d n m scale) k ns h = tt
 early (at_addresses d m offset back) k ns h = word_spares back m k _
 early (interleaved d n four part back) k ns h = not_last k back (R 14) (R n) _ h
@@ -125,7 +125,7 @@ base_spared true false n x e = tt
 base_spared false z n x e = tt
 
 way_spares : (w : Found) (b : ℕ) (ns : List ℕ) → way_writes_lr w ≡ false → Unwritten (R 14) (way_back w b ns)
-way_spares (straight d n offset before back) b ns e = base_spared back (eqb b 3) n _ e
+way_spares (contiguous d n offset before back) b ns e = base_spared back (eqb b 3) n _ e
 way_spares (at_offsets d n m scale) b ns e = tt
 way_spares (at_addresses d m offset back) b ns e = word_spares back m b _
 way_spares (interleaved d n four part back) b ns e = base_spared back (eqb b 3) n _ e

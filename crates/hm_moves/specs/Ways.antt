@@ -10,7 +10,7 @@ use Rattle.hm_mem.specs.Memory.{Around}
 use Rattle.hm_beat.specs.Rows.{Tree, word_place}
 use Rattle.hm_moves.specs.declared.elements.Element.{Element}
 use Rattle.hm_moves.specs.declared.ways.Way.{Way}
-use Rattle.hm_moves.specs.declared.ways.Way.TheVariants.{Straight, Offsets, Addresses, Interleaved}
+use Rattle.hm_moves.specs.declared.ways.Way.TheVariants.{Contiguous, Offsets, Addresses, Interleaved}
 use Rattle.hm_moves.specs.declared.ways.Move.{Move}
 use Rattle.hm_moves.specs.Moves.{Moves, moves_tree, byte_count}
 
@@ -23,7 +23,7 @@ each_from f j (suc n) = f j ∷ each_from f (j + 1) n
 -- V24 to V28: how VLDRB, VSTRB and their kin, VLD2, VLD4, VST2 and VST4 find the elements that they load or store
 pub data Found : Type 0 where
   -- one behind another, for vector register d: from the base in register n, or from there with the offset; the base may get it too
-  straight : (d n offset : ℕ) (before back : Bool) → Found
+  contiguous : (d n offset : ℕ) (before back : Bool) → Found
   -- for d, at the base in n and the offsets in vector register m, times 2 to the power scale
   at_offsets : (d n m scale : ℕ) → Found
   -- for d, at the addresses in vector register m with the offset added, which m may get
@@ -57,7 +57,7 @@ stream part z b = per_word z * (4 * part + b)
 
 -- what the addresses of beat b are made of
 abbrev pub way_sources : Found → ℕ → List Place
-way_sources (straight d n offset before back) b = R n ∷ []
+way_sources (contiguous d n offset before back) b = R n ∷ []
 way_sources (at_offsets d n m scale) b = R n ∷ word_place m b ∷ []
 way_sources (at_addresses d m offset back) b = word_place m b ∷ []
 way_sources (interleaved d n four part back) b = R n ∷ []
@@ -65,7 +65,7 @@ way_sources (interleaved d n four part back) b = R n ∷ []
 -- Element j of beat b, of size y in memory and z in its register, by what stands in the sources. Of interleaved ones element k of the stream is
 -- element k div R of register k mod R, where there are R registers.
 abbrev pub way_element : Size → Size → Found → ℕ → List ℕ → ℕ → Element
-way_element y z (straight d n offset before back) b ns j =
+way_element y z (contiguous d n offset before back) b ns j =
     element (start before offset (get_or ns 0 0) + byte_count y * (per_word z * b + j)) 0 (byte_count z * j)
 way_element y z (at_offsets d n m scale) b ns j =
     element (get_or ns 0 0 + field (8 * (byte_count z * j)) (8 * byte_count z) (get_or ns 1 0) * 2 ^ scale) 0 (byte_count z * j)
@@ -76,7 +76,7 @@ way_element y z (interleaved d n four part back) b ns j =
 
 -- the words that beat b fills or stores from; interleaved elements are of one word of each register that they are of
 abbrev pub way_words : Size → Found → ℕ → List Place
-way_words z (straight d n offset before back) b = word_place d b ∷ []
+way_words z (contiguous d n offset before back) b = word_place d b ∷ []
 way_words z (at_offsets d n m scale) b = word_place d b ∷ []
 way_words z (at_addresses d m offset back) b = word_place d b ∷ []
 way_words z (interleaved d n four part back) b =
@@ -85,7 +85,7 @@ way_words z (interleaved d n four part back) b =
 
 -- what is written back: the base on the last beat, or each address on its beat
 abbrev pub way_back : Found → ℕ → List ℕ → List Write
-way_back (straight d n offset before back) b ns = cond (back && eqb b 3) (write (R n) ((get_or ns 0 0 + offset) % 2 ^ 32) ∷ []) []
+way_back (contiguous d n offset before back) b ns = cond (back && eqb b 3) (write (R n) ((get_or ns 0 0 + offset) % 2 ^ 32) ∷ []) []
 way_back (at_offsets d n m scale) b ns = []
 way_back (at_addresses d m offset back) b ns = cond back (write (word_place m b) ((get_or ns 0 0 + offset) % 2 ^ 32) ∷ []) []
 way_back (interleaved d n four part back) b ns = cond (back && eqb b 3) (write (R n) ((get_or ns 0 0 + 16 * registers four) % 2 ^ 32) ∷ []) []
@@ -97,7 +97,7 @@ way_predicated w = true
 
 -- whether one of its beats writes lr
 abbrev pub way_writes_lr : Found → Bool
-way_writes_lr (straight d n offset before back) = back && eqb n 14
+way_writes_lr (contiguous d n offset before back) = back && eqb n 14
 way_writes_lr (at_offsets d n m scale) = false
 way_writes_lr (at_addresses d m offset back) = false
 way_writes_lr (interleaved d n four part back) = back && eqb n 14
@@ -119,7 +119,7 @@ moves_by t = record {
 -- THE SAME OF WHAT THE CODE HOLDS
 -- V24 to V28: what the code holds of where a row finds its elements, as one of these ways
 abbrev pub way_of : Way → Found
-way_of (Straight w) = straight w.d w.n w.offset w.before w.back
+way_of (Contiguous w) = contiguous w.d w.n w.offset w.before w.back
 way_of (Offsets w) = at_offsets w.d w.n w.m w.scale
 way_of (Addresses w) = at_addresses w.d w.m w.offset w.back
 way_of (Interleaved w) = interleaved w.d w.n w.four w.part w.back

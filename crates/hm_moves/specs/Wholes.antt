@@ -18,7 +18,7 @@ use Rattle.hm_beat.specs.Rows.{advance_half, predicate_at, register_at, retired,
 use Rattle.hm_beat.specs.Touches.{span_bytes}
 use Rattle.hm_kinds.specs.Row.{numbers}
 use Rattle.hm_moves.specs.Moves.{as_loaded, fault_after, little_endian, byte_count}
-use Rattle.hm_moves.specs.Ways.{Found, Transfer, at_addresses, at_offsets, each_from, interleaved, moves_by, registers, start, straight, way_predicated}
+use Rattle.hm_moves.specs.Ways.{Found, Transfer, at_addresses, at_offsets, contiguous, each_from, interleaved, moves_by, registers, start, way_predicated}
 
 -- how many elements a row moves
 abbrev pub count : Size → ℕ
@@ -27,7 +27,7 @@ count z = 4 * per_word z
 -- WHERE THE ELEMENTS STAND IN MEMORY
 -- the addresses of the elements, of size y in memory and of size z in their register; an element at an address has that of its word
 abbrev pub addresses : Size → Size → Found → State → List ℕ
-addresses y z (straight d n offset before back) s = each_from (λ j. (start before offset (at (R n) s) + byte_count y * j) % 2 ^ 32) 0 (count z)
+addresses y z (contiguous d n offset before back) s = each_from (λ j. (start before offset (at (R n) s) + byte_count y * j) % 2 ^ 32) 0 (count z)
 addresses y z (at_offsets d n m scale) s = map (λ o. (at (R n) s + o * 2 ^ scale) % 2 ^ 32) (lanes z (register_at m s))
 addresses y z (at_addresses d m offset back) s = each_from (λ j. (get_or (lanes Word (register_at m s)) (j / per_word z) 0 + offset) % 2 ^ 32) 0 (count z)
 addresses y z (interleaved d n four part back) s = each_from (λ k. (at (R n) s + byte_count y * k) % 2 ^ 32) (count z * part) (count z)
@@ -72,7 +72,7 @@ taken_by all every i xs = each_from (λ e. get_or xs (every * e + i) 0) 0 (all /
 
 -- a register takes the elements, or each register its own, as a part of it
 abbrev pub filled_registers : Size → Found → List ℕ → List (Cell × Value)
-filled_registers z (straight d n offset before back) xs = write_register d (unlanes z xs)
+filled_registers z (contiguous d n offset before back) xs = write_register d (unlanes z xs)
 filled_registers z (at_offsets d n m scale) xs = write_register d (unlanes z xs)
 filled_registers z (at_addresses d m offset back) xs = write_register d (unlanes z xs)
 filled_registers z (interleaved d n four part back) xs =
@@ -82,7 +82,7 @@ filled_registers z (interleaved d n four part back) xs =
 -- STORES
 -- the elements as they stand in their register, or in a part of each register by turns
 abbrev pub stored_elements : Size → Found → State → List ℕ
-stored_elements z (straight d n offset before back) s = lanes z (register_at d s)
+stored_elements z (contiguous d n offset before back) s = lanes z (register_at d s)
 stored_elements z (at_offsets d n m scale) s = lanes z (register_at d s)
 stored_elements z (at_addresses d m offset back) s = lanes z (register_at d s)
 stored_elements z (interleaved d n four part back) s =
@@ -101,7 +101,7 @@ element_bytes y _ _ _ = []
 -- THE WHOLE
 -- the base gets the next one, or each word its address
 abbrev pub written_back : Found → State → List (Cell × Value)
-written_back (straight d n offset before back) s = cond back (into (write (R n) ((at (R n) s + offset) % 2 ^ 32)) ∷ []) []
+written_back (contiguous d n offset before back) s = cond back (into (write (R n) ((at (R n) s + offset) % 2 ^ 32)) ∷ []) []
 written_back (at_offsets d n m scale) s = []
 written_back (at_addresses d m offset back) s = cond back (write_register m (unlanes Word (map (λ a. (a + offset) % 2 ^ 32) (lanes Word (register_at m s))))) []
 written_back (interleaved d n four part back) s = cond back (into (write (R n) ((at (R n) s + 16 * registers four) % 2 ^ 32)) ∷ []) []

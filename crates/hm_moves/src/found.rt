@@ -15,7 +15,7 @@ ghost use Rattle.hm_moves.specs.Ways.{each_from, moves_of, registers, start, str
 ghost use Rattle.hm_moves.specs.declared.ways.Way.TheVariants as way;
 
 use crate::elements::{Element, Elements, byte_count};
-use crate::{Addresses, Interleaved, Move, Offsets, Straight, Way};
+use crate::{Addresses, Contiguous, Interleaved, Move, Offsets, Way};
 use hm_base::{Place, bits};
 use hm_beat::read_word;
 use hm_kinds::{active, read};
@@ -85,7 +85,7 @@ fn lane_number(z: Size, j: u32, word: u32) -> u32
 }
 
 /// Where elements that stand one behind another begin.
-fn start(w: &Straight, base: u32) -> u32
+fn start(w: &Contiguous, base: u32) -> u32
     ensures { result ≡ start w.now.before w.now.offset base }
 {
     if w.before {
@@ -96,10 +96,10 @@ fn start(w: &Straight, base: u32) -> u32
 }
 
 /// Element `j` of beat `b` of those that stand one behind another. `b` is below 4.
-fn straight_element(w: &Straight, y: Size, z: Size, b: u8, base: u32, j: u32) -> Element
+fn contiguous_element(w: &Contiguous, y: Size, z: Size, b: u8, base: u32, j: u32) -> Element
     requires beat { b < 4 }
     requires index { j < per_word z }
-    ensures value { (n : ℕ) → result ≡ way_element y z (way_of (way.Straight w.now)) b (base ∷ n ∷ []) j }
+    ensures value { (n : ℕ) → result ≡ way_element y z (way_of (way.Contiguous w.now)) b (base ∷ n ∷ []) j }
     ensures fit { result.lane + byte_count z ≤ 4 }
 {
     let index = times_count(z, b as u32) + j;
@@ -163,7 +163,7 @@ fn element(row: &Move, b: u8, first: u32, second: u32, j: u32) -> Element
     let y = row.memory;
     let z = row.register;
     match &row.way {
-        Way::Straight(w) => straight_element(w, y, z, b, first, j),
+        Way::Contiguous(w) => contiguous_element(w, y, z, b, first, j),
         Way::Offsets(w) => Element {
             addr: offset_address(w, z, first, second, j),
             word: 0,
@@ -184,7 +184,7 @@ fn first_source(way: &Way, b: u8, r: &Regs) -> u32
     ensures { (m : Memory) (output : List ℕ) → result ≡ get_or (map (λ p. at p (state_of r.now m output)) (way_sources (way_of way.now) b)) 0 0 }
 {
     match way {
-        Way::Straight(w) => read(r, Place::R(w.n)),
+        Way::Contiguous(w) => read(r, Place::R(w.n)),
         Way::Offsets(w) => read(r, Place::R(w.n)),
         Way::Addresses(w) => read_word(r, w.m, b),
         Way::Interleaved(w) => read(r, Place::R(w.n)),
@@ -226,15 +226,15 @@ fn active_bytes(row: &Move, b: u8, r: &Regs) -> [bool; 4]
 
 /// The element of beat `b` of contiguous words, where it is active. `b` is below 4.
 #[inline(always)]
-fn word_element(row: &Move, w: &Straight, b: u8, r: &Regs) -> Option<Element>
+fn word_element(row: &Move, w: &Contiguous, b: u8, r: &Regs) -> Option<Element>
     requires beat { b < 4 }
-    requires way { row.now.way ≡ way.Straight w.now }
+    requires way { row.now.way ≡ way.Contiguous w.now }
     requires word { per_word row.now.register ≡ 1 }
     ensures value { (m : Memory) (output : List ℕ) → IfSome result (λ e. elements_at (moves_of row.now) b (state_of r.now m output) ≡ e ∷ []) }
     ensures fit { IfSome result (λ e. e.lane + byte_count row.now.register ≤ 4) }
 {
     if active(r, b)[0] {
-        Some(straight_element(w, row.memory, row.register, b, read(r, Place::R(w.n)), 0))
+        Some(contiguous_element(w, row.memory, row.register, b, read(r, Place::R(w.n)), 0))
     } else {
         None
     }
@@ -248,7 +248,7 @@ pub fn only_element(row: &Move, b: u8, r: &Regs) -> Option<Element>
     ensures fit { IfSome result (λ e. e.lane + byte_count row.now.register ≤ 4) }
 {
     match (&row.way, row.register) {
-        (Way::Straight(w), Size::Word) => word_element(row, w, b, r),
+        (Way::Contiguous(w), Size::Word) => word_element(row, w, b, r),
         _ => None,
     }
 }
@@ -268,9 +268,9 @@ fn push_active(es: &mut Elements, e: Element, active: bool)
 /// Finds the active ones of the elements of beat `b` that stand one behind another, by the number in the base register.
 /// `b` is below 4, and `es` is empty before.
 #[inline(always)]
-fn find_straight(
+fn find_contiguous(
     es: &mut Elements,
-    w: &Straight,
+    w: &Contiguous,
     y: Size,
     z: Size,
     b: u8,
@@ -280,12 +280,12 @@ fn find_straight(
     requires beat { b < 4 }
     requires empty { es.old.items ≡ [] }
     ensures value { (n : ℕ) → es.new.items ≡ active_ones active
-        (each_from (way_element y z (way_of (way.Straight w.now)) b (base ∷ n ∷ [])) 0 (per_word z)) }
+        (each_from (way_element y z (way_of (way.Contiguous w.now)) b (base ∷ n ∷ [])) 0 (per_word z)) }
     ensures few { length es.new.items ≤ 4 }
     ensures fit { Fit z es.new.items }
 {
     for j in 0..per_word(z) {
-        let found = straight_element(w, y, z, b, base, j);
+        let found = contiguous_element(w, y, z, b, base, j);
         push_active(es, found, active[found.lane as usize]);
     }
 }
@@ -317,7 +317,7 @@ fn find_active(es: &mut Elements, row: &Move, b: u8, first: u32, second: u32, ac
     ensures fit { Fit row.now.register es.new.items }
 {
     match &row.way {
-        Way::Straight(w) => find_straight(es, w, row.memory, row.register, b, first, active),
+        Way::Contiguous(w) => find_contiguous(es, w, row.memory, row.register, b, first, active),
         _ => find_each(es, row, b, first, second, active),
     }
 }

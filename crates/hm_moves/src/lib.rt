@@ -13,4 +13,4 @@ pub use beats::{beat_move, check_move};
 pub use elements::{Element, Elements};
 pub use laws::moves_law;
 pub use touches::touch_move;
-pub use ways::{Addresses, Interleaved, Move, Offsets, Straight, Way};
+pub use ways::{Addresses, Contiguous, Interleaved, Move, Offsets, Way};

@@ -54,7 +54,7 @@ fn note_sources(places: &mut Places, way: &Way, b: u8)
     ensures grown { length places.new ≤ length places.old + 2 }
 {
     match way {
-        Way::Straight(w) => note(places, Place::R(w.n)),
+        Way::Contiguous(w) => note(places, Place::R(w.n)),
         Way::Offsets(w) => {
             note(places, Place::QWord(4 * w.m + b));
             note(places, Place::R(w.n));

@@ -6,7 +6,7 @@ use hm_lane::Size;
 
 /// Elements that stand one behind another in memory, for a vector register.
 #[derive(Clone, Copy, Debug, PartialEq, Eq)]
-pub struct Straight {
+pub struct Contiguous {
     /// The vector register.
     pub d: u8,
     /// The base register.
@@ -74,7 +74,7 @@ pub struct Interleaved {
 /// Where the elements of a row are found.
 #[derive(Clone, Copy, Debug, PartialEq, Eq)]
 pub enum Way {
-    Straight(Straight),
+    Contiguous(Contiguous),
     Offsets(Offsets),
     Addresses(Addresses),
     Interleaved(Interleaved),
@@ -102,7 +102,7 @@ impl Move {
         ensures { result ≡ way_writes_lr (way_of self.now.way) }
     {
         match &self.way {
-            Way::Straight(w) => w.back && w.n == 14,
+            Way::Contiguous(w) => w.back && w.n == 14,
             Way::Offsets(_) => false,
             Way::Addresses(_) => false,
             Way::Interleaved(w) => w.back && w.n == 14,

@@ -109,7 +109,7 @@ pub fn single(way: &Way) -> Option<u8>
     ensures { IsSingle (way_of way.now) result }
 {
     match way {
-        Way::Straight(w) => Some(w.d),
+        Way::Contiguous(w) => Some(w.d),
         Way::Offsets(w) => Some(w.d),
         Way::Addresses(w) => Some(w.d),
         Way::Interleaved(_) => None,
@@ -125,7 +125,7 @@ pub fn list_words(list: &mut Words, way: &Way, z: Size, b: u8)
     ensures few { length list.new.items ≤ 4 }
 {
     match way {
-        Way::Straight(w) => list_word(list, w.d, b),
+        Way::Contiguous(w) => list_word(list, w.d, b),
         Way::Offsets(w) => list_word(list, w.d, b),
         Way::Addresses(w) => list_word(list, w.d, b),
         Way::Interleaved(w) => list_interleaved(list, w, z, b),
@@ -179,7 +179,7 @@ pub fn written_back(way: &Way, b: u8, r: &Regs) -> Option<Written>
     ensures body { IfSome result (λ w. is_body w.place ≡ true) }
 {
     match way {
-        Way::Straight(w) => base_back(w.back, w.n, b, w.offset, r),
+        Way::Contiguous(w) => base_back(w.back, w.n, b, w.offset, r),
         Way::Offsets(_) => None,
         Way::Addresses(w) => word_back(w.back, w.m, b, w.offset, r),
         Way::Interleaved(w) => base_back(w.back, w.n, b, 16 * registers(w), r),

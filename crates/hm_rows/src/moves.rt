@@ -9,7 +9,7 @@ ghost use Rattle.hm_rows.specs.Rows.{Moves, kind_of, offset_of};
 use hm_isa::{V24, V25, V26, V27, V28};
 use hm_lane::Size;
 use hm_lane_fns::size;
-use hm_moves::{Addresses, Interleaved, Move, Offsets, Straight, Way};
+use hm_moves::{Addresses, Contiguous, Interleaved, Move, Offsets, Way};
 
 /// So many elements in bytes.
 fn bytes(i: u32, z: Size) -> u32
@@ -38,7 +38,7 @@ fn offset(added: bool, i: u32, z: Size) -> u32
 }
 
 /// What a row V24 moves.
-pub fn straight_move(row: &V24) -> Move
+pub fn contiguous_move(row: &V24) -> Move
     ensures { Moves (transfer_of result) ≡ kind_of (vector.V24 row.now) }
 {
     let z = size(&row.z);
@@ -47,7 +47,7 @@ pub fn straight_move(row: &V24) -> Move
         memory: z,
         register: z,
         signed: false,
-        way: Way::Straight(Straight {
+        way: Way::Contiguous(Contiguous {
             d: row.d.get() as u8,
             n: row.n.get() as u8,
             offset: offset(row.a.get() == 1, row.i.get(), z),
@@ -71,7 +71,7 @@ pub fn widening_move(row: &V25) -> Move
         memory,
         register: size(&row.z),
         signed: row.u.get() == 0,
-        way: Way::Straight(Straight {
+        way: Way::Contiguous(Contiguous {
             d: row.d.get() as u8,
             n: row.n.get() as u8,
             offset: offset(row.a.get() == 1, row.i.get(), memory),

@@ -9,7 +9,9 @@ use crate::forms::{
     sum_form, vector_shift_form,
 };
 use crate::kinds::Kind;
-use crate::moves::{addresses_move, interleaved_move, offsets_move, straight_move, widening_move};
+use crate::moves::{
+    addresses_move, contiguous_move, interleaved_move, offsets_move, widening_move,
+};
 use hm_forms::Form;
 use hm_isa::Vector;
 
@@ -41,7 +43,7 @@ pub fn kind(v: &Vector) -> Kind
         Vector::V21(row) => Kind::Registers(predicate_form(row)),
         Vector::V22(row) => Kind::Registers(sum_form(row)),
         Vector::V23(row) => Kind::Registers(Form::Extreme(*row)),
-        Vector::V24(row) => Kind::Moves(straight_move(row)),
+        Vector::V24(row) => Kind::Moves(contiguous_move(row)),
         Vector::V25(row) => Kind::Moves(widening_move(row)),
         Vector::V26(row) => Kind::Moves(offsets_move(row)),
         Vector::V27(row) => Kind::Moves(addresses_move(row)),

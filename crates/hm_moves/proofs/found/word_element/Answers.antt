@@ -6,4 +6,4 @@ pub returns-then-active-clause-value : goal.returns-then-active-clause-value
 returns-then-active-clause-value c = λ m output.
     let row = c.args.row.now in
     only_word row.way row.memory row.register c.args.w.now c.args.b _ _ (state_of c.args.r.now m output) _ c.requires.way c.requires.word
-    (c.active.ensures m output) (c.read.ensures.value m output) (c.straight_element.ensures.value 0) c.if-active.true
+    (c.active.ensures m output) (c.read.ensures.value m output) (c.contiguous_element.ensures.value 0) c.if-active.true
