@@ -24,7 +24,7 @@ use Rattle.hm_forms.specs.declared.form.Form.{Form}
 use Rattle.hm_forms.specs.declared.form.Form.TheVariants as form
 use Rattle.hm_forms_elements.specs.Forms.{offset_after, offsets_from}
 use Rattle.hm_lane_fns.specs.Registers.{operand_register, saturating}
-use Rattle.hm_forms_elements.specs.Registers.{round_at, wide_result}
+use Rattle.hm_forms_elements.specs.Registers.{long_product_result, round_at}
 use Rattle.hm_forms_predicate.specs.Predicates.{half_writes, mask_after, predicate_whole}
 use Rattle.hm_forms_predicate.specs.Blocks.{block_whole}
 use Rattle.hm_forms.specs.Wholes.{form_whole}
@@ -101,7 +101,7 @@ plain_words d k (x ∷ xs) = (refl, plain_words d (k + 1) xs)
 plain : (ps : List Bool) (f : Form) (s : State) → Plain (writes_under ps f s)
 plain ps (form.Lanes l) s = plain_words l.d.value 0 _
 plain ps (form.Constant r) s = plain_words r.d.value 0 _
-plain ps (form.Narrow r) s = plain_words r.d.value 0 _
+plain ps (form.Narrowing r) s = plain_words r.d.value 0 _
 plain ps (form.Carry r) s = (refl, plain_words r.d.value 0 _)
 plain ps (form.Shift r) s = (refl, plain_words r.d.value 0 _)
 plain ps (form.Offsets r) s = plain-append (write_words r.d.value 0 _) (_ ∷ []) (plain_words r.d.value 0 _) (refl, tt)
@@ -112,7 +112,7 @@ plain ps (form.Compare r) s = tt
 plain ps (form.Count r) s = tt
 plain ps form.Invert s = tt
 plain ps (form.Select r) s = tt
-plain ps (form.Wide r) s = plain_words r.d.value 0 _
+plain ps (form.LongProduct r) s = plain_words r.d.value 0 _
 plain ps (form.Widening r) s = plain_words r.d.value 0 _
 plain ps (form.ComplexSum r) s = plain_words r.d.value 0 _
 plain ps (form.Reversed r) s = plain_words r.d.value 0 _
@@ -186,9 +186,9 @@ same_operand : (z : Size) (by : Operand) (b : ℕ) (s : State) → operand_regis
 same_operand z (Vector q) b s = refl
 same_operand z by b s = refl
 
-same_wide : (r : V6) (z : Size) (b : ℕ) (s : State) → wide_result r z (only b s) ≡ wide_result r z s
-same_wide r Byte b s = refl
-same_wide r z b s = refl
+same_long_product : (r : V6) (z : Size) (b : ℕ) (s : State) → long_product_result r z (only b s) ≡ long_product_result r z s
+same_long_product r Byte b s = refl
+same_long_product r z b s = refl
 
 same_round : (q : Option (Below 6)) (b : ℕ) (s : State) → round_at q (only b s) ≡ round_at q s
 same_round q b s = grind arith
@@ -198,7 +198,7 @@ same_writes ps (form.Lanes l) b s =
     λ j. merges_under ps l.d.value
     (lanewise3 l.z (lane_of l.f l.unsigned l.z) (register_at l.d.value s) (register_at l.n.value s) (same_operand l.z l.by b s j)) s
 same_writes ps (form.Constant r) b s = refl
-same_writes ps (form.Narrow r) b s = refl
+same_writes ps (form.Narrowing r) b s = refl
 same_writes ps (form.Carry r) b s = refl
 same_writes ps (form.Shift r) b s = refl
 same_writes ps (form.Offsets r) b s = λ j.
@@ -206,7 +206,7 @@ same_writes ps (form.Offsets r) b s = λ j.
     let count = 4 * per_word r.z in
     merges_under ps r.d.value (unlanes r.z (offsets_from r (same_round r.round b s j) count (at place s))) s
     ++ (into (write place (offset_after r (same_round r.round b s j) count (at place s))) ∷ [])
-same_writes ps (form.Wide r) b s = λ j. merges_under ps r.d.value (same_wide r (size_of r.z.value) b s j) s
+same_writes ps (form.LongProduct r) b s = λ j. merges_under ps r.d.value (same_long_product r (size_of r.z.value) b s j) s
 same_writes ps f b s = refl
 
 same_marks : (ps : List Bool) (f : Form) (b : ℕ) (s : State) → marks_under ps f (only b s) ≡ marks_under ps f s

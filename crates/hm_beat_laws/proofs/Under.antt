@@ -13,11 +13,11 @@ use Rattle.hm_lane_fns.specs.Words.{any_both, size_of}
 use Rattle.hm_forms_elements.specs.declared.offsets.Steps.{Steps}
 use Rattle.hm_forms.specs.declared.form.Form.{Form}
 use Rattle.hm_forms.specs.declared.form.Form.TheVariants as form
-use Rattle.hm_forms_elements.specs.Forms.{begins, narrow_saturates, offset_after, offsets_from, shift_of, subtracts}
+use Rattle.hm_forms_elements.specs.Forms.{begins, narrowing_saturates, offset_after, offsets_from, shift_of, subtracts}
 use Rattle.hm_forms_across.specs.Registers.{extreme_under, long_under, sum_under}
 use Rattle.hm_lane_fns.specs.Registers.{saturating}
-use Rattle.hm_forms_elements.specs.Registers.{bits_from, constant_result, flags_from, lanes_result, lanes_saturated, widening_result, narrow_result}
-use Rattle.hm_forms_elements.specs.Registers.{narrow_saturated, reversed_result, round_at, shifted_from, sums_from, complex_sum_result, wide_result}
+use Rattle.hm_forms_elements.specs.Registers.{bits_from, constant_result, flags_from, lanes_result, lanes_saturated, widening_result, narrowing_result}
+use Rattle.hm_forms_elements.specs.Registers.{narrowing_saturated, reversed_result, round_at, shifted_from, sums_from, complex_sum_result, long_product_result}
 use Rattle.hm_forms_elements.specs.Registers.{words_at}
 use Rattle.hm_rows.specs.Rows.{Registers}
 use Rattle.hm_beat_laws.specs.Exceptions.{from_beat, gives_registers}
@@ -59,14 +59,14 @@ offsets_under ps r s =
 abbrev pub writes_under : List Bool → Form → State → List (Cell × Value)
 writes_under ps (form.Lanes l) s = merges_under ps l.d.value (lanes_result l s) s
 writes_under ps (form.Constant r) s = merges_under ps r.d.value (constant_result r s) s
-writes_under ps (form.Narrow r) s = merges_under ps r.d.value (narrow_result r s) s
+writes_under ps (form.Narrowing r) s = merges_under ps r.d.value (narrowing_result r s) s
 writes_under ps (form.Carry r) s = carry_under ps r s
 writes_under ps (form.Shift r) s = shift_under ps r s
 writes_under ps (form.Offsets r) s = offsets_under ps r s
 writes_under ps (form.Sum r) s = sum_under ps r s
 writes_under ps (form.Long r) s = long_under ps r s
 writes_under ps (form.Extreme r) s = extreme_under ps r s
-writes_under ps (form.Wide r) s = merges_under ps r.d.value (wide_result r (size_of r.z.value) s) s
+writes_under ps (form.LongProduct r) s = merges_under ps r.d.value (long_product_result r (size_of r.z.value) s) s
 writes_under ps (form.Widening r) s = merges_under ps r.d.value (widening_result r s) s
 writes_under ps (form.ComplexSum r) s = merges_under ps r.d.value (complex_sum_result r s) s
 writes_under ps (form.Reversed r) s = merges_under ps r.d.value (reversed_result r s) s
@@ -75,7 +75,7 @@ writes_under ps f s = []
 -- whether it sets QC
 abbrev pub marks_under : List Bool → Form → State → Bool
 marks_under ps (form.Lanes l) s = saturates l.f && any_both ps (lanes_saturated l s)
-marks_under ps (form.Narrow r) s = narrow_saturates r.name && any_both ps (narrow_saturated r s)
+marks_under ps (form.Narrowing r) s = narrowing_saturates r.name && any_both ps (narrowing_saturated r s)
 marks_under ps f s = false
 
 abbrev pub whole_under : List Bool → Form → State → State

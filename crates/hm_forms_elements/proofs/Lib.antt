@@ -1,5 +1,5 @@
 pub mod LaneRows
 pub mod Registers
-pub mod Narrows
+pub mod NarrowingRows
 pub mod Chains
 pub mod Immediates

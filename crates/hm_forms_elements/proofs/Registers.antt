@@ -26,11 +26,11 @@ use Rattle.hm_forms_elements.specs.declared.widening.Widening.{Widening}
 use Rattle.hm_forms_elements.specs.declared.offsets.Steps.{Steps}
 use Rattle.hm_forms_elements.specs.Forms.{constant_new, constant_row, every_second, exchanged, in_turn, widened, widening_new, widening_row, offset_after}
 use Rattle.hm_forms_elements.specs.Forms.{offsets_from, offsets_row, other_word, reversed_at, reversed_new, reversed_row, reversed_word, select_new, select_row}
-use Rattle.hm_forms_elements.specs.Forms.{round_of, round_places, product, complex_sum_at, complex_sum_lane, complex_sum_new, complex_sum_row, wide_at}
-use Rattle.hm_forms_elements.specs.Forms.{wide_new, wide_row, wide_word, words_row}
+use Rattle.hm_forms_elements.specs.Forms.{round_of, round_places, product, complex_sum_at, complex_sum_lane, complex_sum_new, complex_sum_row, long_product_at}
+use Rattle.hm_forms_elements.specs.Forms.{long_product_new, long_product_row, long_product_word, words_row}
 use Rattle.hm_lane_fns.specs.Registers.{advancing, merges}
 use Rattle.hm_forms_elements.specs.Registers.{constant_result, in_groups, long_bytes, widening_result, offsets_writes, reversed_result}
-use Rattle.hm_forms_elements.specs.Registers.{round_at, select_result, complex_sum_result, wide_result}
+use Rattle.hm_forms_elements.specs.Registers.{round_at, select_result, complex_sum_result, long_product_result}
 use Rattle.hm_lane_fns.proofs.Lanewise.{advances, bytes_of-word, four}
 
 -- the four words of a row that merges a word on each beat
@@ -159,13 +159,14 @@ pairs_half f odd x y = bytes_of-word _ _ _ _ (omega arith) (omega arith) (omega 
 
 module _ (r : V6) (s : State) where
   -- the new word of beat b, if this were the size
-  abbrev pub wide_of : ℕ → ℕ → ℕ
-  wide_of z b =
+  abbrev pub long_product_of : ℕ → ℕ → ℕ
+  long_product_of z b =
       let k = cond (nat_eq z 2) (2 * (b / 2) + r.t.value) b in
-      wide_word r (size_of z) b (at (word_place r.n.value k) s) (at (word_place r.m.value k) s)
+      long_product_word r (size_of z) b (at (word_place r.n.value k) s) (at (word_place r.m.value k) s)
 
-  by_size : row_by_words (wide_row r) s ≡ merged_whole r.d.value (four (wide_of r.z.value)) s
-  by_size = words_whole false r.d.value (λ b. word_place r.n.value (wide_at r b) ∷ word_place r.m.value (wide_at r b) ∷ []) (λ b slice. wide_new r b) s
+  by_size : row_by_words (long_product_row r) s ≡ merged_whole r.d.value (four (long_product_of r.z.value)) s
+  by_size = words_whole false r.d.value (λ b. word_place r.n.value (long_product_at r b) ∷ word_place r.m.value (long_product_at r b) ∷ [])
+      (λ b slice. long_product_new r b) s
 
   abbrev pub first : ℕ → ℕ
   first b = at (word_place r.n.value b) s
@@ -173,17 +174,17 @@ module _ (r : V6) (s : State) where
   abbrev pub second : ℕ → ℕ
   second b = at (word_place r.m.value b) s
 
-  wide_bytes : r.z.value ≡ 0 → row_by_words (wide_row r) s ≡ merged_whole r.d.value (wide_result r Byte s) s
-  wide_bytes e =
+  long_product_bytes : r.z.value ≡ 0 → row_by_words (long_product_row r) s ≡ merged_whole r.d.value (long_product_result r Byte s) s
+  long_product_bytes e =
       let odd = nat_eq r.t.value 1 in
-      by_size ∙ (λ j. merged_whole r.d.value (four (wide_of (e j))) s)
+      by_size ∙ (λ j. merged_whole r.d.value (four (long_product_of (e j))) s)
       ∙ ap (λ u. merged_whole r.d.value u s) (sym (λ j. pairs_byte (product r) odd (first 0) (second 0) j ++ pairs_byte (product r) odd (first 1) (second 1) j
       ++ pairs_byte (product r) odd (first 2) (second 2) j ++ pairs_byte (product r) odd (first 3) (second 3) j))
 
-  wide_halves : r.z.value ≡ 1 → row_by_words (wide_row r) s ≡ merged_whole r.d.value (wide_result r Half s) s
-  wide_halves e =
+  long_product_halves : r.z.value ≡ 1 → row_by_words (long_product_row r) s ≡ merged_whole r.d.value (long_product_result r Half s) s
+  long_product_halves e =
       let odd = nat_eq r.t.value 1 in
-      by_size ∙ (λ j. merged_whole r.d.value (four (wide_of (e j))) s)
+      by_size ∙ (λ j. merged_whole r.d.value (four (long_product_of (e j))) s)
       ∙ ap (λ u. merged_whole r.d.value u s) (sym (λ j. pairs_half (product r) odd (first 0) (second 0) j ++ pairs_half (product r) odd (first 1) (second 1) j
       ++ pairs_half (product r) odd (first 2) (second 2) j ++ pairs_half (product r) odd (first 3) (second 3) j))
 
@@ -203,19 +204,19 @@ long_words zero h p x y = λ j. low (p (x 0) (y 0)) j ++ bytes_of (p (x 0) (y 0)
 long_words (suc zero) h p x y = λ j. low (p (x 1) (y 1)) j ++ bytes_of (p (x 1) (y 1) / 2 ^ 32) ++ low (p (x 3) (y 3)) j ++ bytes_of (p (x 3) (y 3) / 2 ^ 32)
 long_words (suc (suc t)) h p x y = absurd (omega arith)
 
-wide_words : (r : V6) (s : State) → r.z.value ≡ 2 → row_by_words (wide_row r) s ≡ merged_whole r.d.value (wide_result r Word s) s
-wide_words r s e =
-    by_size r s ∙ (λ j. merged_whole r.d.value (four (wide_of r s (e j))) s)
+long_product_words : (r : V6) (s : State) → r.z.value ≡ 2 → row_by_words (long_product_row r) s ≡ merged_whole r.d.value (long_product_result r Word s) s
+long_product_words r s e =
+    by_size r s ∙ (λ j. merged_whole r.d.value (four (long_product_of r s (e j))) s)
     ∙ ap (λ u. merged_whole r.d.value u s)
     (long_words r.t.value r.t.in_range (product r) (λ b. at (word_place r.n.value b) s) (λ b. at (word_place r.m.value b) s))
 
-pub wide_is : (r : V6) (s : State) → row_by_words (wide_row r) s ≡ merged_whole r.d.value (wide_result r (size_of r.z.value) s) s
-wide_is r s = by_value r.z.value r.z.in_range refl
+pub long_product_is : (r : V6) (s : State) → row_by_words (long_product_row r) s ≡ merged_whole r.d.value (long_product_result r (size_of r.z.value) s) s
+long_product_is r s = by_value r.z.value r.z.in_range refl
   where
-    by_value : (z : ℕ) → z < 3 → r.z.value ≡ z → row_by_words (wide_row r) s ≡ merged_whole r.d.value (wide_result r (size_of r.z.value) s) s
-    by_value zero h e = wide_bytes r s e ∙ ap (λ z. merged_whole r.d.value (wide_result r (size_of z) s) s) (sym e)
-    by_value (suc zero) h e = wide_halves r s e ∙ ap (λ z. merged_whole r.d.value (wide_result r (size_of z) s) s) (sym e)
-    by_value (suc (suc zero)) h e = wide_words r s e ∙ ap (λ z. merged_whole r.d.value (wide_result r (size_of z) s) s) (sym e)
+    by_value : (z : ℕ) → z < 3 → r.z.value ≡ z → row_by_words (long_product_row r) s ≡ merged_whole r.d.value (long_product_result r (size_of r.z.value) s) s
+    by_value zero h e = long_product_bytes r s e ∙ ap (λ z. merged_whole r.d.value (long_product_result r (size_of z) s) s) (sym e)
+    by_value (suc zero) h e = long_product_halves r s e ∙ ap (λ z. merged_whole r.d.value (long_product_result r (size_of z) s) s) (sym e)
+    by_value (suc (suc zero)) h e = long_product_words r s e ∙ ap (λ z. merged_whole r.d.value (long_product_result r (size_of z) s) s) (sym e)
     by_value (suc (suc (suc z))) h e = absurd (omega arith)
 
 -- CONSTANTS

@@ -87,9 +87,9 @@ constant_row r = words_row false r.d.value (λ b. []) (λ b slice. constant_new 
 
 -- PARTS OF WORDS
 -- V16: whether an instruction saturates: VQMOVN and VQMOVUN do, and VMOVN does not
-abbrev pub narrow_saturates : NarrowName → Bool
-narrow_saturates narrow.Plain = false
-narrow_saturates n = true
+abbrev pub narrowing_saturates : NarrowName → Bool
+narrowing_saturates narrow.Plain = false
+narrowing_saturates n = true
 
 -- V16: whether the wide elements are unsigned: those of VQMOVN of unsigned elements
 abbrev pub takes_unsigned : NarrowName → Bool
@@ -106,44 +106,46 @@ gives_unsigned n = false
 abbrev pub narrowed : NarrowName → Size → Size → ℕ → ℕ
 narrowed f wide small x =
     let v = lane_value (takes_unsigned f) wide x in
-    cut small (cond (narrow_saturates f) (clamped (gives_unsigned f) small v) v)
+    cut small (cond (narrowing_saturates f) (clamped (gives_unsigned f) small v) v)
 
 -- V16: whether a wide element is outside the range of the narrow one
-abbrev pub narrow_outside : NarrowName → Size → Size → ℕ → Bool
-narrow_outside f wide small x = is_outside (gives_unsigned f) small (lane_value (takes_unsigned f) wide x)
+abbrev pub narrowing_outside : NarrowName → Size → Size → ℕ → Bool
+narrowing_outside f wide small x = is_outside (gives_unsigned f) small (lane_value (takes_unsigned f) wide x)
 
 -- narrow elements in the lower or the upper part of the wide ones' places: of two halves or of the whole of an operand's four bytes
-abbrev pub narrow_bytes : Bool → Bool → NarrowName → List ℕ → List ℕ → List ℕ
-narrow_bytes false false f (a ∷ b ∷ c ∷ d ∷ l) (p ∷ q ∷ r ∷ s ∷ v) = narrowed f Half Byte (p + 256 * q) ∷ b ∷ narrowed f Half Byte (r + 256 * s) ∷ d ∷ []
-narrow_bytes false true f (a ∷ b ∷ c ∷ d ∷ l) (p ∷ q ∷ r ∷ s ∷ v) = a ∷ narrowed f Half Byte (p + 256 * q) ∷ c ∷ narrowed f Half Byte (r + 256 * s) ∷ []
-narrow_bytes true false f (a ∷ b ∷ c ∷ d ∷ l) (p ∷ q ∷ r ∷ s ∷ v) =
+abbrev pub narrowing_bytes : Bool → Bool → NarrowName → List ℕ → List ℕ → List ℕ
+narrowing_bytes false false f (a ∷ b ∷ c ∷ d ∷ l) (p ∷ q ∷ r ∷ s ∷ v) = narrowed f Half Byte (p + 256 * q) ∷ b ∷ narrowed f Half Byte (r + 256 * s) ∷ d ∷ []
+narrowing_bytes false true f (a ∷ b ∷ c ∷ d ∷ l) (p ∷ q ∷ r ∷ s ∷ v) = a ∷ narrowed f Half Byte (p + 256 * q) ∷ c ∷ narrowed f Half Byte (r + 256 * s) ∷ []
+narrowing_bytes true false f (a ∷ b ∷ c ∷ d ∷ l) (p ∷ q ∷ r ∷ s ∷ v) =
     let n = narrowed f Word Half (p + 256 * q + 65536 * r + 16777216 * s) in n % 256 ∷ n / 256 ∷ c ∷ d ∷ []
-narrow_bytes true true f (a ∷ b ∷ c ∷ d ∷ l) (p ∷ q ∷ r ∷ s ∷ v) =
+narrowing_bytes true true f (a ∷ b ∷ c ∷ d ∷ l) (p ∷ q ∷ r ∷ s ∷ v) =
     let n = narrowed f Word Half (p + 256 * q + 65536 * r + 16777216 * s) in a ∷ b ∷ n % 256 ∷ n / 256 ∷ []
-narrow_bytes z t f _ _ = []
+narrowing_bytes z t f _ _ = []
 
 -- where they saturate
-abbrev pub narrow_tests : Bool → Bool → NarrowName → List ℕ → List Bool
-narrow_tests false false f (p ∷ q ∷ r ∷ s ∷ v) = narrow_outside f Half Byte (p + 256 * q) ∷ false ∷ narrow_outside f Half Byte (r + 256 * s) ∷ false ∷ []
-narrow_tests false true f (p ∷ q ∷ r ∷ s ∷ v) = false ∷ narrow_outside f Half Byte (p + 256 * q) ∷ false ∷ narrow_outside f Half Byte (r + 256 * s) ∷ []
-narrow_tests true false f (p ∷ q ∷ r ∷ s ∷ v) = narrow_outside f Word Half (p + 256 * q + 65536 * r + 16777216 * s) ∷ false ∷ false ∷ false ∷ []
-narrow_tests true true f (p ∷ q ∷ r ∷ s ∷ v) = false ∷ false ∷ narrow_outside f Word Half (p + 256 * q + 65536 * r + 16777216 * s) ∷ false ∷ []
-narrow_tests z t f _ = []
+abbrev pub narrowing_tests : Bool → Bool → NarrowName → List ℕ → List Bool
+narrowing_tests false false f (p ∷ q ∷ r ∷ s ∷ v) =
+    narrowing_outside f Half Byte (p + 256 * q) ∷ false ∷ narrowing_outside f Half Byte (r + 256 * s) ∷ false ∷ []
+narrowing_tests false true f (p ∷ q ∷ r ∷ s ∷ v) =
+    false ∷ narrowing_outside f Half Byte (p + 256 * q) ∷ false ∷ narrowing_outside f Half Byte (r + 256 * s) ∷ []
+narrowing_tests true false f (p ∷ q ∷ r ∷ s ∷ v) = narrowing_outside f Word Half (p + 256 * q + 65536 * r + 16777216 * s) ∷ false ∷ false ∷ false ∷ []
+narrowing_tests true true f (p ∷ q ∷ r ∷ s ∷ v) = false ∷ false ∷ narrowing_outside f Word Half (p + 256 * q + 65536 * r + 16777216 * s) ∷ false ∷ []
+narrowing_tests z t f _ = []
 
 -- V16: the new word of VMOVN, VQMOVN or VQMOVUN, by the old word and that of the operand
-abbrev pub narrow_new : V16 → List ℕ → ℕ
-narrow_new r (old ∷ x ∷ vs) = word_of (narrow_bytes (nat_eq r.z.value 1) (nat_eq r.t.value 1) r.name (bytes_of old) (bytes_of x))
-narrow_new r _ = 0
+abbrev pub narrowing_new : V16 → List ℕ → ℕ
+narrowing_new r (old ∷ x ∷ vs) = word_of (narrowing_bytes (nat_eq r.z.value 1) (nat_eq r.t.value 1) r.name (bytes_of old) (bytes_of x))
+narrowing_new r _ = 0
 
 -- V16: whether VQMOVN or VQMOVUN sets QC: whether an active narrow element of a word saturates
-abbrev pub narrow_mark : V16 → List Bool → List ℕ → Bool
-narrow_mark r active (old ∷ x ∷ vs) = any_both active (narrow_tests (nat_eq r.z.value 1) (nat_eq r.t.value 1) r.name (bytes_of x))
-narrow_mark r active _ = false
+abbrev pub narrowing_mark : V16 → List Bool → List ℕ → Bool
+narrowing_mark r active (old ∷ x ∷ vs) = any_both active (narrowing_tests (nat_eq r.z.value 1) (nat_eq r.t.value 1) r.name (bytes_of x))
+narrowing_mark r active _ = false
 
 -- V16: VMOVN, VQMOVN and VQMOVUN, beat by beat (DDI0553, "VMOVN", "VQMOVN" and "VQMOVUN")
-abbrev pub narrow_row : V16 → Row
-narrow_row r = words_row false r.d.value (λ b. word_place r.m.value b ∷ []) (λ b slice. narrow_new r)
-    (cond (narrow_saturates r.name) (Some (λ b. narrow_mark r)) None)
+abbrev pub narrowing_row : V16 → Row
+narrowing_row r = words_row false r.d.value (λ b. word_place r.m.value b ∷ []) (λ b slice. narrowing_new r)
+    (cond (narrowing_saturates r.name) (Some (λ b. narrowing_mark r)) None)
 
 -- A CARRY FROM WORD TO WORD
 -- V8: whether an instruction subtracts: VSBC and VSBCI do
@@ -289,8 +291,8 @@ select_row r = words_row true r.d.value (λ b. word_place r.n.value b ∷ word_p
 
 -- WIDE PRODUCTS
 -- the word of a register that elements of beat b stand in; both words of a product of 64 bits come of one
-abbrev pub wide_at : V6 → ℕ → ℕ
-wide_at r b = cond (nat_eq r.z.value 2) (2 * (b / 2) + r.t.value) b
+abbrev pub long_product_at : V6 → ℕ → ℕ
+long_product_at r b = cond (nat_eq r.z.value 2) (2 * (b / 2) + r.t.value) b
 
 -- the product of two lanes
 abbrev pub product : V6 → ℕ → ℕ → ℕ
@@ -308,19 +310,20 @@ products r z wide x y =
     word_of (unlanes wide (paired (product r) (every_second odd (lanes z (bytes_of x))) (every_second odd (lanes z (bytes_of y)))))
 
 -- V6: word b of the products of VMULLB or VMULLT; of a product of 64 bits an even beat takes the low half, an odd one the high half
-abbrev pub wide_word : V6 → Size → ℕ → ℕ → ℕ → ℕ
-wide_word r Byte b x y = products r Byte Half x y
-wide_word r Half b x y = products r Half Word x y
-wide_word r Word b x y = cond (eqb (b % 2) 0) (product r x y % 2 ^ 32) (product r x y / 2 ^ 32)
+abbrev pub long_product_word : V6 → Size → ℕ → ℕ → ℕ → ℕ
+long_product_word r Byte b x y = products r Byte Half x y
+long_product_word r Half b x y = products r Half Word x y
+long_product_word r Word b x y = cond (eqb (b % 2) 0) (product r x y % 2 ^ 32) (product r x y / 2 ^ 32)
 
 -- V6: the new word b of VMULLB or VMULLT, by words of both operands
-abbrev pub wide_new : V6 → ℕ → List ℕ → ℕ
-wide_new r b (old ∷ x ∷ y ∷ vs) = wide_word r (size_of r.z.value) b x y
-wide_new r b _ = 0
+abbrev pub long_product_new : V6 → ℕ → List ℕ → ℕ
+long_product_new r b (old ∷ x ∷ y ∷ vs) = long_product_word r (size_of r.z.value) b x y
+long_product_new r b _ = 0
 
 -- V6: VMULLB and VMULLT, beat by beat (DDI0553, "VMULL (integer)")
-abbrev pub wide_row : V6 → Row
-wide_row r = words_row false r.d.value (λ b. word_place r.n.value (wide_at r b) ∷ word_place r.m.value (wide_at r b) ∷ []) (λ b slice. wide_new r b) None
+abbrev pub long_product_row : V6 → Row
+long_product_row r = words_row false r.d.value (λ b. word_place r.n.value (long_product_at r b) ∷ word_place r.m.value (long_product_at r b) ∷ [])
+    (λ b slice. long_product_new r b) None
 
 -- NEIGHBOURS
 -- the other word of a pair

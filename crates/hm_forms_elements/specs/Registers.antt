@@ -27,7 +27,7 @@ use Rattle.hm_forms_elements.specs.declared.widening.Widening.{Widening}
 use Rattle.hm_forms_elements.specs.declared.offsets.Steps.{Steps}
 use Rattle.hm_isa.specs.declared.fields.Below.{Below}
 use Rattle.hm_forms_elements.specs.Constants.{constant_op, imm_word}
-use Rattle.hm_forms_elements.specs.Forms.{begins, every_second, exchanged, in_turn, widened, narrow_outside, narrow_saturates, narrowed, offset_after}
+use Rattle.hm_forms_elements.specs.Forms.{begins, every_second, exchanged, in_turn, widened, narrowing_outside, narrowing_saturates, narrowed, offset_after}
 use Rattle.hm_forms_elements.specs.Forms.{offsets_from, product, shift_of, subtracts, complex_sum_lane}
 
 -- the four words of a register, the lowest first
@@ -73,20 +73,21 @@ narrowed_result r wide small s =
     unlanes small (placed (nat_eq r.t.value 1) (elements small r.d.value s) (map (narrowed r.name wide small) (elements wide r.m.value s)))
 
 -- V16: the 16 new bytes of VMOVN, VQMOVN and VQMOVUN (DDI0553, "VMOVN", "VQMOVN" and "VQMOVUN")
-abbrev pub narrow_result : V16 → State → List ℕ
-narrow_result r s = cond (nat_eq r.z.value 1) (narrowed_result r Word Half s) (narrowed_result r Half Byte s)
+abbrev pub narrowing_result : V16 → State → List ℕ
+narrowing_result r s = cond (nat_eq r.z.value 1) (narrowed_result r Word Half s) (narrowed_result r Half Byte s)
 
 -- where wide elements of the operand are outside the range of narrow ones, at the lowest byte of each narrow one
 abbrev pub narrowed_tests : V16 → Size → Size → State → List Bool
-narrowed_tests r wide small s = spread small (placed_tests (nat_eq r.t.value 1) (map (narrow_outside r.name wide small) (elements wide r.m.value s)))
+narrowed_tests r wide small s = spread small (placed_tests (nat_eq r.t.value 1) (map (narrowing_outside r.name wide small) (elements wide r.m.value s)))
 
 -- V16: where elements saturate, at the lowest byte of each narrow one
-abbrev pub narrow_saturated : V16 → State → List Bool
-narrow_saturated r s = cond (nat_eq r.z.value 1) (narrowed_tests r Word Half s) (narrowed_tests r Half Byte s)
+abbrev pub narrowing_saturated : V16 → State → List Bool
+narrowing_saturated r s = cond (nat_eq r.z.value 1) (narrowed_tests r Word Half s) (narrowed_tests r Half Byte s)
 
 -- V16: VMOVN, VQMOVN and VQMOVUN as a whole, with QC (DDI0553, "VMOVN", "VQMOVN" and "VQMOVUN")
-abbrev pub narrow_whole : V16 → State → State
-narrow_whole r s = saturating (narrow_saturates r.name && any_both (predicate_at s) (narrow_saturated r s)) (merges r.d.value (narrow_result r s) s) s
+abbrev pub narrowing_whole : V16 → State → State
+narrowing_whole r s =
+    saturating (narrowing_saturates r.name && any_both (predicate_at s) (narrowing_saturated r s)) (merges r.d.value (narrowing_result r s) s) s
 
 -- A CARRY from word to word
 -- two words and a carry, which stands in bit 1 of the flags; the second word is inverted where it is to be taken away
@@ -164,10 +165,10 @@ abbrev pub long_bytes : List ℕ → List ℕ
 long_bytes l = flat_map (λ (x : ℕ). bytes_of x ++ bytes_of (x / 2 ^ 32)) l
 
 -- the products of every second elements of a size, each of twice that size
-abbrev pub wide_result : V6 → Size → State → List ℕ
-wide_result r Byte s = unlanes Half (products_of r (elements Byte r.n.value s) (elements Byte r.m.value s))
-wide_result r Half s = unlanes Word (products_of r (elements Half r.n.value s) (elements Half r.m.value s))
-wide_result r Word s = long_bytes (products_of r (words_at r.n.value s) (words_at r.m.value s))
+abbrev pub long_product_result : V6 → Size → State → List ℕ
+long_product_result r Byte s = unlanes Half (products_of r (elements Byte r.n.value s) (elements Byte r.m.value s))
+long_product_result r Half s = unlanes Word (products_of r (elements Half r.n.value s) (elements Half r.m.value s))
+long_product_result r Word s = long_bytes (products_of r (words_at r.n.value s) (words_at r.m.value s))
 
 -- each two elements exchanged, each four, each eight in reverse
 abbrev pub fours : List ℕ → List ℕ

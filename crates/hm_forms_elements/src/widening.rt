@@ -10,7 +10,7 @@ ghost use Rattle.hm_lane.specs.Lanes.{modulus};
 ghost use Rattle.hm_kinds.specs.Row.{row_tree};
 ghost use Rattle.hm_forms_elements.specs.Forms.{widened, long_lanes, widening_row, widening_word};
 
-use crate::wide::picked;
+use crate::long_product::picked;
 use hm_base::{Places, note};
 use hm_beat::Touch;
 use hm_isa::QRegister;

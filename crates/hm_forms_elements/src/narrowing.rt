@@ -7,8 +7,8 @@ ghost use Rattle.hm_beat.specs.Laws.{run};
 ghost use Rattle.hm_beat.specs.Touches.{reads_in, writes_in};
 ghost use Rattle.hm_kinds.specs.Row.{row_tree};
 ghost use Rattle.hm_lane.specs.Lanes.{bytes_of, modulus, word_of};
-ghost use Rattle.hm_forms_elements.specs.Forms.{gives_unsigned, narrow_bytes, narrow_outside, narrow_row, narrow_saturates, narrow_tests, narrowed};
-ghost use Rattle.hm_forms_elements.specs.Forms.{takes_unsigned};
+ghost use Rattle.hm_forms_elements.specs.Forms.{gives_unsigned, narrowed, narrowing_bytes, narrowing_outside, narrowing_row, narrowing_saturates};
+ghost use Rattle.hm_forms_elements.specs.Forms.{narrowing_tests, takes_unsigned};
 
 use hm_base::{Places, note};
 use hm_beat::Touch;
@@ -20,7 +20,7 @@ use hm_regs::Regs;
 
 /// Whether the operation saturates.
 fn saturates(f: NarrowName) -> bool
-    ensures { result ≡ narrow_saturates f }
+    ensures { result ≡ narrowing_saturates f }
 {
     match f {
         NarrowName::Plain => false,
@@ -65,7 +65,7 @@ fn narrowed(f: NarrowName, wide: Size, small: Size, x: u32) -> u32
 /// Whether it saturates.
 fn outside(f: NarrowName, wide: Size, small: Size, x: u32) -> bool
     requires { x < modulus wide }
-    ensures { result ≡ narrow_outside f wide small x }
+    ensures { result ≡ narrowing_outside f wide small x }
 {
     is_outside(
         gives_unsigned(f),
@@ -75,8 +75,8 @@ fn outside(f: NarrowName, wide: Size, small: Size, x: u32) -> bool
 }
 
 /// Narrow elements in the lower or the upper part of the wide ones' places.
-fn narrow_word(wide: bool, top: bool, f: NarrowName, old: u32, x: u32) -> u32
-    ensures { result ≡ word_of (narrow_bytes wide top f (bytes_of old) (bytes_of x)) }
+fn narrowing_word(wide: bool, top: bool, f: NarrowName, old: u32, x: u32) -> u32
+    ensures { result ≡ word_of (narrowing_bytes wide top f (bytes_of old) (bytes_of x)) }
 {
     let [a, b, c, d] = bytes(old);
     if wide {
@@ -100,8 +100,8 @@ fn narrow_word(wide: bool, top: bool, f: NarrowName, old: u32, x: u32) -> u32
 }
 
 /// Where they saturate.
-fn narrow_tests(wide: bool, top: bool, f: NarrowName, x: u32) -> [bool; 4]
-    ensures { result ≡ narrow_tests wide top f (bytes_of x) }
+fn narrowing_tests(wide: bool, top: bool, f: NarrowName, x: u32) -> [bool; 4]
+    ensures { result ≡ narrowing_tests wide top f (bytes_of x) }
 {
     if wide {
         let n = outside(f, Size::Word, Size::Half, x);
@@ -122,10 +122,10 @@ fn narrow_tests(wide: bool, top: bool, f: NarrowName, x: u32) -> [bool; 4]
 }
 
 /// What beat `b` of `vmovn`, `vqmovn` or `vqmovun` touches: DDI0553, "VMOVN", "VQMOVN" and "VQMOVUN". `b` is below 4.
-pub fn touch_narrow(row: &V16, b: u8, r: &Regs) -> Touch
+pub fn touch_narrowing(row: &V16, b: u8, r: &Regs) -> Touch
     requires { b < 4 }
-    ensures reads { (m : Memory) (output : List ℕ) → result.reads ≡ reads_in (row_tree (narrow_row row.now) b) r.now m output }
-    ensures writes { (m : Memory) (output : List ℕ) → result.writes ≡ writes_in (row_tree (narrow_row row.now) b) r.now m output }
+    ensures reads { (m : Memory) (output : List ℕ) → result.reads ≡ reads_in (row_tree (narrowing_row row.now) b) r.now m output }
+    ensures writes { (m : Memory) (output : List ℕ) → result.writes ≡ writes_in (row_tree (narrowing_row row.now) b) r.now m output }
     ensures loads { result.loads.items ≡ [] }
     ensures stores { result.stores.items ≡ [] }
 {
@@ -143,9 +143,9 @@ pub fn touch_narrow(row: &V16, b: u8, r: &Regs) -> Touch
 }
 
 /// Does beat `b` of `vmovn`, `vqmovn` or `vqmovun`: DDI0553, "VMOVN", "VQMOVN" and "VQMOVUN". `b` is below 4.
-pub fn beat_narrow(row: &V16, b: u8, r: &mut Regs)
+pub fn beat_narrowing(row: &V16, b: u8, r: &mut Regs)
     requires { b < 4 }
-    ensures done { (m : Memory) (output : List ℕ) → run (row_tree (narrow_row row.now) b) r.old m output ≡ Ok (state_of r.new m output) }
+    ensures done { (m : Memory) (output : List ℕ) → run (row_tree (narrowing_row row.now) b) r.old m output ≡ Ok (state_of r.new m output) }
     ensures context { r.new.fpca ≡ r.old.fpca }
 {
     let place = word_place(&row.d, b);
@@ -153,8 +153,9 @@ pub fn beat_narrow(row: &V16, b: u8, r: &mut Regs)
     let x = read(r, word_place(&row.m, b));
     let wide = row.z.get() == 1;
     let top = row.t.get() == 1;
-    let new = narrow_word(wide, top, row.name, old, x);
-    let marks = saturates(row.name) && any_both(active(r, b), narrow_tests(wide, top, row.name, x));
+    let new = narrowing_word(wide, top, row.name, old, x);
+    let marks = saturates(row.name)
+        && any_both(active(r, b), narrowing_tests(wide, top, row.name, x));
     let written = Written {
         place,
         value: merge_active(r, b, old, new),

@@ -16,8 +16,8 @@ use Rattle.hm_beat.specs.Rows.{active_at, advance_half, predicate_at, register_a
 use Rattle.hm_kinds.specs.Row.{Row, ends_at, mark_at, outs_at, row_by_words, values_at}
 use Rattle.hm_lane_fns.specs.LaneFns.{cut}
 use Rattle.hm_lane_fns.specs.Words.{any_both}
-use Rattle.hm_forms_elements.specs.Forms.{narrow_bytes, narrow_mark, narrow_outside, narrow_row, narrow_saturates, narrow_tests, narrowed}
-use Rattle.hm_forms_elements.specs.Registers.{narrow_result, narrow_saturated, narrow_whole, placed, placed_tests}
+use Rattle.hm_forms_elements.specs.Forms.{narrowed, narrowing_bytes, narrowing_mark, narrowing_outside, narrowing_row, narrowing_saturates, narrowing_tests}
+use Rattle.hm_forms_elements.specs.Registers.{narrowing_result, narrowing_saturated, narrowing_whole, placed, placed_tests}
 use Rattle.hm_lane_fns.proofs.Lanewise.{active_byte, advances, and_four, any_words, four, marked_where}
 
 -- A NUMBER CUT to its lane fits it
@@ -63,8 +63,8 @@ upper_half a b n h i j =
     cc (e, f, g, l)
 
 -- THE NARROW ELEMENTS of one word
-abbrev narrow_word : Bool → Bool → NarrowName → ℕ → ℕ → List ℕ
-narrow_word z odd f o x = bytes_of (word_of (narrow_bytes z odd f (bytes_of o) (bytes_of x)))
+abbrev narrowing_word : Bool → Bool → NarrowName → ℕ → ℕ → List ℕ
+narrowing_word z odd f o x = bytes_of (word_of (narrowing_bytes z odd f (bytes_of o) (bytes_of x)))
 
 abbrev from_words : Bool → NarrowName → ℕ → ℕ → List ℕ
 from_words odd f o x = unlanes Half (placed odd (lanes Half (bytes_of o)) (map (narrowed f Word Half) (lanes Word (bytes_of x))))
@@ -72,7 +72,7 @@ from_words odd f o x = unlanes Half (placed odd (lanes Half (bytes_of o)) (map (
 abbrev from_halves : Bool → NarrowName → ℕ → ℕ → List ℕ
 from_halves odd f o x = unlanes Byte (placed odd (bytes_of o) (map (narrowed f Half Byte) (lanes Half (bytes_of x))))
 
-one_word : (z odd : Bool) (f : NarrowName) (o x : ℕ) → narrow_word z odd f o x ≡ cond z (from_words odd f o x) (from_halves odd f o x)
+one_word : (z odd : Bool) (f : NarrowName) (o x : ℕ) → narrowing_word z odd f o x ≡ cond z (from_words odd f o x) (from_halves odd f o x)
 one_word false false f o x = as_bytes _ _ _ _ (cut_below Byte _) (omega arith) (cut_below Byte _) (omega arith)
 one_word false true f o x = as_bytes _ _ _ _ (omega arith) (cut_below Byte _) (omega arith) (cut_below Byte _)
 one_word true false f o x = lower_half _ _ _ (cut_below Half _) (omega arith) (omega arith)
@@ -80,7 +80,7 @@ one_word true true f o x = upper_half _ _ _ (omega arith) (omega arith) (cut_bel
 
 -- of four
 pub four_words : (z odd : Bool) (f : NarrowName) (o x : ℕ → ℕ) →
-    four (λ b. word_of (narrow_bytes z odd f (bytes_of (o b)) (bytes_of (x b))))
+    four (λ b. word_of (narrowing_bytes z odd f (bytes_of (o b)) (bytes_of (x b))))
     ≡ cond z (unlanes Half (placed odd (lanes Half (four o)) (map (narrowed f Word Half) (lanes Word (four x)))))
     (unlanes Byte (placed odd (lanes Byte (four o)) (map (narrowed f Half Byte) (lanes Half (four x)))))
 four_words false odd f o x = λ j. one_word false odd f (o 0) (x 0) j ++ one_word false odd f (o 1) (x 1) j ++ one_word false odd f (o 2) (x 2) j
@@ -90,19 +90,19 @@ four_words true odd f o x = λ j. one_word true odd f (o 0) (x 0) j ++ one_word 
 
 -- THE TESTS of four words
 pub four_tests : (z odd : Bool) (f : NarrowName) (x : ℕ → ℕ) (s : State)
-    → (let A : ℕ → Bool = λ b. any_both (active_at b s) (narrow_tests z odd f (bytes_of (x b))) in
+    → (let A : ℕ → Bool = λ b. any_both (active_at b s) (narrowing_tests z odd f (bytes_of (x b))) in
     any_both (predicate_at s)
-    (cond z (spread Half (placed_tests odd (map (narrow_outside f Word Half) (lanes Word (four x)))))
-    (spread Byte (placed_tests odd (map (narrow_outside f Half Byte) (lanes Half (four x))))))
+    (cond z (spread Half (placed_tests odd (map (narrowing_outside f Word Half) (lanes Word (four x)))))
+    (spread Byte (placed_tests odd (map (narrowing_outside f Half Byte) (lanes Half (four x))))))
     ≡ (A 0 || A 1 || A 2 || A 3))
-four_tests false false f x s = any_words (active_byte s) (λ b j. get_or (narrow_tests false false f (bytes_of (x b))) j false)
-four_tests false true f x s = any_words (active_byte s) (λ b j. get_or (narrow_tests false true f (bytes_of (x b))) j false)
-four_tests true false f x s = any_words (active_byte s) (λ b j. get_or (narrow_tests true false f (bytes_of (x b))) j false)
-four_tests true true f x s = any_words (active_byte s) (λ b j. get_or (narrow_tests true true f (bytes_of (x b))) j false)
+four_tests false false f x s = any_words (active_byte s) (λ b j. get_or (narrowing_tests false false f (bytes_of (x b))) j false)
+four_tests false true f x s = any_words (active_byte s) (λ b j. get_or (narrowing_tests false true f (bytes_of (x b))) j false)
+four_tests true false f x s = any_words (active_byte s) (λ b j. get_or (narrowing_tests true false f (bytes_of (x b))) j false)
+four_tests true true f x s = any_words (active_byte s) (λ b j. get_or (narrowing_tests true true f (bytes_of (x b))) j false)
 
 module _ (r : V16) (s : State) where
   abbrev this_row : Row
-  this_row = narrow_row r
+  this_row = narrowing_row r
 
   abbrev z : Bool
   z = nat_eq r.z.value 1
@@ -117,11 +117,11 @@ module _ (r : V16) (s : State) where
   x b = at (word_place r.m.value b) s
 
   marks : (mark_at this_row 0 s || mark_at this_row 1 s || mark_at this_row 2 s || mark_at this_row 3 s)
-      ≡ (narrow_saturates r.name && any_both (predicate_at s) (narrow_saturated r s))
+      ≡ (narrowing_saturates r.name && any_both (predicate_at s) (narrowing_saturated r s))
   marks =
-      let t = narrow_saturates r.name in
-      let A : ℕ → Bool = λ b. any_both (active_at b s) (narrow_tests z odd r.name (bytes_of (x b))) in
-      let e : (b : ℕ) → mark_at this_row b s ≡ (t && A b) = λ b. marked_where t b (active_at b s) (values_at this_row b s) (λ k. narrow_mark r) in
+      let t = narrowing_saturates r.name in
+      let A : ℕ → Bool = λ b. any_both (active_at b s) (narrowing_tests z odd r.name (bytes_of (x b))) in
+      let e : (b : ℕ) → mark_at this_row b s ≡ (t && A b) = λ b. marked_where t b (active_at b s) (values_at this_row b s) (λ k. narrowing_mark r) in
       (λ j. e 0 j || e 1 j || e 2 j || e 3 j) ∙ and_four t (A 0) (A 1) (A 2) (A 3) ∙ ap (λ y. t && y) (sym (four_tests z odd r.name x s))
 
   abbrev merged_with : List ℕ → State
@@ -133,11 +133,11 @@ module _ (r : V16) (s : State) where
   merged_is : ends (put_all cells
       (outs_at this_row 0 s (this_row.outs 0) ++ outs_at this_row 1 s (this_row.outs 1) ++ outs_at this_row 2 s (this_row.outs 2)
       ++ outs_at this_row 3 s (this_row.outs 3)) s)
-      ≡ merged_with (narrow_result r s)
+      ≡ merged_with (narrowing_result r s)
   merged_is = advances this_row s
       (put_all cells (outs_at this_row 0 s (this_row.outs 0) ++ outs_at this_row 1 s (this_row.outs 1) ++ outs_at this_row 2 s (this_row.outs 2)
       ++ outs_at this_row 3 s (this_row.outs 3)) s) refl refl
       ∙ ap merged_with (four_words z odd r.name old x)
 
-  pub narrow_is : row_by_words this_row s ≡ narrow_whole r s
-  narrow_is = λ j. retired (flagged (marks j) (merged_is j))
+  pub narrowing_is : row_by_words this_row s ≡ narrowing_whole r s
+  narrowing_is = λ j. retired (flagged (marks j) (merged_is j))

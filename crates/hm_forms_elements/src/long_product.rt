@@ -11,7 +11,7 @@ ghost use Rattle.hm_lane.specs.declared.lanes.Size.TheVariants as size;
 ghost use Rattle.hm_lane.specs.Lanes.{modulus};
 ghost use Rattle.hm_kinds.specs.Row.{is_body, row_tree};
 ghost use Rattle.hm_lane_fns.specs.Words.{size_of};
-ghost use Rattle.hm_forms_elements.specs.Forms.{product, products, wide_at, wide_row, wide_word};
+ghost use Rattle.hm_forms_elements.specs.Forms.{long_product_at, long_product_row, long_product_word, product, products};
 
 use hm_base::{Place, Places, note};
 use hm_beat::Touch;
@@ -81,8 +81,8 @@ fn part(b: u8, p: u64) -> u32
 }
 
 /// The new word of beat `b`.
-fn wide_word(row: &V6, b: u8, x: u32, y: u32) -> u32
-    ensures { result ≡ wide_word row.now (size_of row.now.z.value) b x y }
+fn long_product_word(row: &V6, b: u8, x: u32, y: u32) -> u32
+    ensures { result ≡ long_product_word row.now (size_of row.now.z.value) b x y }
 {
     match size(&row.z) {
         Size::Byte => byte_products(row, x, y),
@@ -94,7 +94,7 @@ fn wide_word(row: &V6, b: u8, x: u32, y: u32) -> u32
 /// The word of a register that the elements of beat `b` stand in; `b` is below 4.
 fn source(row: &V6, q: &QRegister, b: u8) -> Place
     requires { b < 4 }
-    ensures value { result ≡ word_place q.now.value (wide_at row.now b) }
+    ensures value { result ≡ word_place q.now.value (long_product_at row.now b) }
     ensures placed { IsPlace result }
     ensures body { is_body result ≡ true }
 {
@@ -106,10 +106,10 @@ fn source(row: &V6, q: &QRegister, b: u8) -> Place
 }
 
 /// What beat `b` of `vmullb` or `vmullt` touches: DDI0553, "VMULL (integer)". `b` is below 4.
-pub fn touch_wide(row: &V6, b: u8, r: &Regs) -> Touch
+pub fn touch_long_product(row: &V6, b: u8, r: &Regs) -> Touch
     requires { b < 4 }
-    ensures reads { (m : Memory) (output : List ℕ) → result.reads ≡ reads_in (row_tree (wide_row row.now) b) r.now m output }
-    ensures writes { (m : Memory) (output : List ℕ) → result.writes ≡ writes_in (row_tree (wide_row row.now) b) r.now m output }
+    ensures reads { (m : Memory) (output : List ℕ) → result.reads ≡ reads_in (row_tree (long_product_row row.now) b) r.now m output }
+    ensures writes { (m : Memory) (output : List ℕ) → result.writes ≡ writes_in (row_tree (long_product_row row.now) b) r.now m output }
     ensures loads { result.loads.items ≡ [] }
     ensures stores { result.stores.items ≡ [] }
 {
@@ -128,16 +128,16 @@ pub fn touch_wide(row: &V6, b: u8, r: &Regs) -> Touch
 }
 
 /// Does beat `b` of `vmullb` or `vmullt`: DDI0553, "VMULL (integer)". `b` is below 4.
-pub fn beat_wide(row: &V6, b: u8, r: &mut Regs)
+pub fn beat_long_product(row: &V6, b: u8, r: &mut Regs)
     requires { b < 4 }
-    ensures done { (m : Memory) (output : List ℕ) → run (row_tree (wide_row row.now) b) r.old m output ≡ Ok (state_of r.new m output) }
+    ensures done { (m : Memory) (output : List ℕ) → run (row_tree (long_product_row row.now) b) r.old m output ≡ Ok (state_of r.new m output) }
     ensures context { r.new.fpca ≡ r.old.fpca }
 {
     let place = word_place(&row.d, b);
     let old = read(r, place);
     let x = read(r, source(row, &row.n, b));
     let y = read(r, source(row, &row.m, b));
-    let new = wide_word(row, b, x, y);
+    let new = long_product_word(row, b, x, y);
     let written = Written {
         place,
         value: merge_active(r, b, old, new),
