@@ -38,11 +38,11 @@ places_bytes : (bs : List ℕ) (cs : List Cell) → places_in (map Byte bs ++ cs
 places_bytes [] cs = refl
 places_bytes (b ∷ bs) cs = places_bytes bs cs
 
-bytes_bytes : (bs : List ℕ) (cs : List Cell) → bytes_in (map Byte bs ++ cs) ≡ bs ++ bytes_in cs
+pub bytes_bytes : (bs : List ℕ) (cs : List Cell) → bytes_in (map Byte bs ++ cs) ≡ bs ++ bytes_in cs
 bytes_bytes [] cs = refl
 bytes_bytes (b ∷ bs) cs = ap (λ xs. b ∷ xs) (bytes_bytes bs cs)
 
-places_where : (y : Bool) (bs : List ℕ) (ps : List Place) → places_in (cond y [] (map Byte bs) ++ map At ps) ≡ ps
+pub places_where : (y : Bool) (bs : List ℕ) (ps : List Place) → places_in (cond y [] (map Byte bs) ++ map At ps) ≡ ps
 places_where true bs ps = places_at ps
 places_where false bs ps = places_bytes bs (map At ps) ∙ places_at ps
 
@@ -93,7 +93,7 @@ targets_stores t z (e ∷ es) = targets-append (store_bytes t e 0 (span_bytes e.
     ∙ (λ j. targets_bytes t e 0 (span_bytes e.addr (byte_count z)) j ++ targets_stores t z es j)
     ∙ sym (map-append Byte (span_bytes e.addr (byte_count z)) (bytes_of_elements z es))
 
-targets_moved : (i : Moves) (t : Bool) (b : ℕ) (es : List Element) (y : Bool)
+pub targets_moved : (i : Moves) (t : Bool) (b : ℕ) (es : List Element) (y : Bool)
     → targets (cond y (store_all t i.memory es) (fill i 0 es (i.words b)))
     ≡ cond y (map Byte (bytes_of_elements i.memory es)) [] ++ map At (cond (not y) (i.words b) [])
 targets_moved i t b es true = targets_stores t i.memory es ∙ sym (append-nil (map Byte (bytes_of_elements i.memory es)))
@@ -115,11 +115,11 @@ leaf_targets i b r m output low =
     ∙ append_assoc bytes (map At (cond (not i.store) (i.words b) [])) (map At (places_of ws ++ advance_places b r))
     ∙ ap (λ cs. bytes ++ cs) (sym (map-append At (cond (not i.store) (i.words b) []) (places_of ws ++ advance_places b r)))
 
-places_after : (y : Bool) (bs : List ℕ) (ps : List Place) → places_in (cond y (map Byte bs) [] ++ map At ps) ≡ ps
+pub places_after : (y : Bool) (bs : List ℕ) (ps : List Place) → places_in (cond y (map Byte bs) [] ++ map At ps) ≡ ps
 places_after true bs ps = places_bytes bs (map At ps) ∙ places_at ps
 places_after false bs ps = places_at ps
 
-bytes_after : (y : Bool) (bs : List ℕ) (ps : List Place) → bytes_in (cond y (map Byte bs) [] ++ map At ps) ≡ cond y bs []
+pub bytes_after : (y : Bool) (bs : List ℕ) (ps : List Place) → bytes_in (cond y (map Byte bs) [] ++ map At ps) ≡ cond y bs []
 bytes_after true bs ps = bytes_bytes bs (map At ps) ∙ ap (λ xs. bs ++ xs) (bytes_at ps) ∙ append-nil bs
 bytes_after false bs ps = bytes_at ps
 
