@@ -1,5 +1,5 @@
 -- The rows of 32-bit codes that branch.
-use Rattle.std.proofs.Common.{◌≡◌, ◌≢◌, ◌+◌, ℕ, true, List, [], ◌∷◌, arith, refl, sym, ◌∙◌, ap, inl}
+use Rattle.std.proofs.Common.{◌≡◌, ◌≢◌, ◌+◌, ℕ, List, [], ◌∷◌, arith, refl, sym, ◌∙◌, ap}
 use Rattle.hm_isa.specs.declared.fields.Below.{Below}
 use Rattle.hm_isa.specs.declared.jumps.T16.{T16}
 use Rattle.hm_isa.specs.declared.jumps.T16.TheVariants as t16
@@ -23,10 +23,11 @@ use Rattle.hm_isa.specs.contracts.jumps.T23 as t23_
 use Rattle.hm_isa.specs.JumpCodes.{code_wide_conditional, wide_branch_base, code_wide_always, code_t16, table_base, code_t17, code_dls, code_wls, code_dlstp}
 use Rattle.hm_isa.specs.JumpCodes.{code_wlstp, loop_end_base, code_loop_end, code_t23}
 use Rattle.hm_layout.proofs.Places.{place, head_or, rest_of}
-use Rattle.hm_layout.proofs.Search.{Decided, no_rule, decided_both, decided_differ, try_unit}
+use Rattle.hm_layout.proofs.Search.{Decided, no_rule, decided_both, decided_differ}
 use Rattle.hm_layout.proofs.Coded.{Coded, Digit, digit}
 use Rattle.hm_layout.proofs.Rows.{Placing, Row, at, spread, the_name, Named, named, Plain, plain, coded, sparing}
 use Rattle.hm_layout.proofs.Tables.{of_table, ◌▹◌}
+use Rattle.hm_codes.proofs.SystemRows.{one_code}
 
 abbrev pub row_wide_conditional : Plain wide_conditional_.the_type code_wide_conditional
 row_wide_conditional = record {
@@ -102,26 +103,6 @@ row_loop_end = record {
   rules = λ v. no_rule;
 }
 
--- a row of one code
-abbrev pub row_of_code : ℕ → Row (Unit {0})
-row_of_code c = record {
-  Name = Unit {0};
-  names = tt ∷ [];
-  name = λ r. tt;
-  listed = λ r. inl refl;
-  base = λ x. c;
-  places = λ x. [];
-  without = λ x. [];
-  is_fit = true;
-  code = λ r. c;
-  numbers = λ r. [];
-  fits = λ e r. tt;
-  is_code = λ r. omega arith;
-  spared = λ e r d. tt;
-  told = λ e a b name numbers. refl;
-  tried = try_unit;
-}
-
 -- with pc for the count other rows stand
 abbrev pub no_count : List (List Digit)
 no_count = (digit 16 4 15 ∷ []) ∷ []
@@ -140,6 +121,6 @@ coded_t23 =
     coded spared_dlstp ▹
     coded spared_wlstp ▹
     coded (named row_loop_end) ▹
-    coded (row_of_code 0xf00fe001) ▹
+    coded (one_code 0xf00fe001) ▹
     tt)
     (elim [ t23.Dls r ↦ refl | t23.Wls r ↦ refl | t23.Dlstp r ↦ refl | t23.Wlstp r ↦ refl | t23.End r ↦ refl | t23.Lctp ↦ refl ])
