@@ -27,7 +27,7 @@ use Rattle.hm_layout.proofs.Same.{same_below, same_struct}
 use Rattle.hm_layout.proofs.Places.{place, head_or, rest_of}
 use Rattle.hm_layout.proofs.Search.{one_rule, try_below, try_names, try_pair, try_unit}
 use Rattle.hm_layout.proofs.Coded.{Coded, digit}
-use Rattle.hm_layout.proofs.Rows.{Row, at, by_name, the_name, Named, named, Split, coded, sparing}
+use Rattle.hm_layout.proofs.Rows.{CodeRow, at, by_name, the_name, Named, named, Split, coded, sparing}
 use Rattle.hm_layout.proofs.Tables.{of_table, ◌▹◌}
 
 abbrev pub row_t8 : Named t8_.the_type wide_shift_.enum code_t8 wide_shift_base
@@ -79,7 +79,7 @@ pub some_sum : (n a d m : ℕ) → IsTrue (is_accumulated n a d m) → a ≡ 15 
 some_sum n a d m h e = grind (arith, nat_tests)
 
 -- where pc would be added to, the product stands alone
-abbrev pub spared_accumulate : Row Accumulate
+abbrev pub spared_accumulate : CodeRow Accumulate
 spared_accumulate =
     sparing (named row_accumulate) (λ x. (digit 12 4 15 ∷ []) ∷ [])
     (λ r d. (λ e. some_sum r.n.value r.a.value r.d.value r.m.value r.rules (sym (ap (λ (xs : List ℕ). head_or (rest_of xs)) d) ∙ e.0), tt))

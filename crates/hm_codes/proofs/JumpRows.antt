@@ -25,7 +25,7 @@ use Rattle.hm_isa.specs.JumpCodes.{code_wlstp, loop_end_base, code_loop_end, cod
 use Rattle.hm_layout.proofs.Places.{place, head_or, rest_of}
 use Rattle.hm_layout.proofs.Search.{Decided, no_rule, decided_both, decided_differ}
 use Rattle.hm_layout.proofs.Coded.{Coded, Digit, digit}
-use Rattle.hm_layout.proofs.Rows.{Placing, Row, at, spread, the_name, Named, named, Plain, plain, coded, sparing}
+use Rattle.hm_layout.proofs.Rows.{Placing, CodeRow, at, spread, the_name, Named, named, Plain, plain, coded, sparing}
 use Rattle.hm_layout.proofs.Tables.{of_table, ◌▹◌}
 use Rattle.hm_codes.proofs.SystemRows.{one_code}
 
@@ -107,10 +107,10 @@ row_loop_end = record {
 abbrev pub no_count : List (List Digit)
 no_count = (digit 16 4 15 ∷ []) ∷ []
 
-abbrev pub spared_dlstp : Row Dlstp
+abbrev pub spared_dlstp : CodeRow Dlstp
 spared_dlstp = sparing (plain row_dlstp) (λ x. no_count) (λ r d. (λ e. r.not_pc (sym (ap (λ (xs : List ℕ). head_or (rest_of xs)) d) ∙ e.0), tt))
 
-abbrev pub spared_wlstp : Row Wlstp
+abbrev pub spared_wlstp : CodeRow Wlstp
 spared_wlstp = sparing (plain row_wlstp) (λ x. no_count) (λ r d. (λ e. r.not_pc (sym (ap (λ (xs : List ℕ). head_or (rest_of xs)) d) ∙ e.0), tt))
 
 abbrev pub coded_t23 : Coded T23

@@ -12,7 +12,7 @@ use Rattle.hm_isa.specs.MemoryCodes.{code_v24, code_v25, code_v26, code_v27, cod
 use Rattle.hm_layout.proofs.Places.{place, head_or, rest_of}
 use Rattle.hm_layout.proofs.Search.{no_rule, one_rule, decided_both, decided_test}
 use Rattle.hm_layout.proofs.Coded.{digit}
-use Rattle.hm_layout.proofs.Rows.{Row, at, spread, Plain, plain, sparing}
+use Rattle.hm_layout.proofs.Rows.{CodeRow, at, spread, Plain, plain, sparing}
 
 abbrev pub row_v24 : Plain v24_.the_type code_v24
 row_v24 = record {
@@ -35,7 +35,7 @@ pub some_index : (u p w l h z : ℕ) → IsTrue (is_widening u p w l h z) → p 
 some_index u p w l h z k e f = grind (arith, nat_tests)
 
 -- with neither an offset nor writeback loads and stores at offsets stand
-abbrev pub spared_v25 : Row V25
+abbrev pub spared_v25 : CodeRow V25
 spared_v25 =
     sparing (plain row_v25) (λ x. (digit 24 1 0 ∷ digit 21 1 0 ∷ []) ∷ [])
     (λ r d. (

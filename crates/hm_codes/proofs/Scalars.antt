@@ -46,7 +46,7 @@ use Rattle.hm_isa.specs.Code.{code_s15, plain_base, code_s16, word_base, code_s1
 use Rattle.hm_layout.proofs.Coded.{digit}
 use Rattle.hm_layout.proofs.Places.{Place, place, Fits, placed, head_or, rest_of}
 use Rattle.hm_layout.proofs.Search.{no_rule, one_rule}
-use Rattle.hm_layout.proofs.Rows.{Row, at, spread, the_name, Named, Plain, plain, sparing, Varied}
+use Rattle.hm_layout.proofs.Rows.{CodeRow, at, spread, the_name, Named, Plain, plain, sparing, Varied}
 
 abbrev pub row_s1 : Named s1_.the_type shift_.enum code_s1 shift_base
 row_s1 = record {
@@ -221,7 +221,7 @@ pub some_mask : (c mask n : ℕ) → IsTrue (keeps_it c mask) → n / 2 ^ 0 % 2 
 some_mask c mask n k d e = grind (arith, nat_tests)
 
 -- with no mask other rows stand
-abbrev pub spared_s21 : Row S21
+abbrev pub spared_s21 : CodeRow S21
 spared_s21 =
     sparing (plain row_s21) (λ x. (digit 0 4 0 ∷ []) ∷ [])
     (λ r d. (λ e. some_mask r.c.value r.mask.value (code_s21 r) r.row (ap (λ (xs : List ℕ). head_or (rest_of xs)) d) e.0, tt))

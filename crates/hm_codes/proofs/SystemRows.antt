@@ -21,7 +21,7 @@ use Rattle.hm_isa.specs.SystemCodes.{lane_move_base, code_t22}
 use Rattle.hm_layout.proofs.Places.{place}
 use Rattle.hm_layout.proofs.Search.{no_rule, one_rule, decided_both, decided_differ, try_unit}
 use Rattle.hm_layout.proofs.Coded.{Coded}
-use Rattle.hm_layout.proofs.Rows.{Row, at, spread, the_name, Named, named, coded}
+use Rattle.hm_layout.proofs.Rows.{CodeRow, at, spread, the_name, Named, named, coded}
 use Rattle.hm_layout.proofs.Tables.{of_table, ◌▹◌}
 
 abbrev pub row_mrs : Named mrs_.the_type read_.enum code_mrs read_base
@@ -44,7 +44,7 @@ coded_t18 =
     (elim [ t18.Read r ↦ refl | t18.Write r ↦ refl ])
 
 -- a row of one code
-abbrev pub one_code : ℕ → Row (Unit {0})
+abbrev pub one_code : ℕ → CodeRow (Unit {0})
 one_code c = record {
   Name = Unit {0};
   names = tt ∷ [];

@@ -88,7 +88,7 @@ use Rattle.hm_isa.specs.Code.{code_tail, code_v21, code_sum, code_dot, code_long
 use Rattle.hm_layout.proofs.Places.{head_or, rest_of, Place, place}
 use Rattle.hm_layout.proofs.Search.{no_rule, one_rule, decided_both, decided_test, decided_differ}
 use Rattle.hm_layout.proofs.Coded.{Coded, digit}
-use Rattle.hm_layout.proofs.Rows.{Row, sparing, at, spread, the_name, Named, named, coded, Plain, plain, Varied, varied}
+use Rattle.hm_layout.proofs.Rows.{CodeRow, sparing, at, spread, the_name, Named, named, coded, Plain, plain, Varied, varied}
 use Rattle.hm_layout.proofs.Tables.{of_table, ◌▹◌}
 use Rattle.hm_codes.proofs.MemoryRows.{row_v24, spared_v25, row_v26, row_v27, row_v28}
 
@@ -176,7 +176,7 @@ row_v10 = record {
 pub no_third_size : (z n : ℕ) → z < 3 → n / 2 ^ 20 % 2 ^ 2 ≡ z → n / 2 ^ 20 % 2 ^ 2 ≡ 3 → ⊥
 no_third_size z n h d e = omega arith
 
-abbrev pub spared_v10 : Row V10
+abbrev pub spared_v10 : CodeRow V10
 spared_v10 =
     sparing (varied row_v10) (λ x. (digit 20 2 3 ∷ []) ∷ [])
     (λ r d. (λ e. no_third_size r.z.value (code_v10 r) r.z.in_range (ap (λ (xs : List ℕ). head_or (rest_of xs)) d) e.0, tt))
@@ -202,7 +202,7 @@ no_low_size x n s d e =
     let low : 8 ≤ x = grind (arith, nat_tests) in
     omega arith
 
-abbrev pub spared_v11 : Row V11
+abbrev pub spared_v11 : CodeRow V11
 spared_v11 =
     sparing (varied row_v11) (λ x. (digit 19 3 0 ∷ []) ∷ [])
     (λ r d. (λ e. no_low_size r.x.value (code_v11 r) r.size (ap (λ (xs : List ℕ). head_or (rest_of xs)) d) e.0, tt))

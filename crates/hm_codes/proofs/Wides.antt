@@ -25,7 +25,7 @@ use Rattle.hm_layout.proofs.Bits.{both_left}
 use Rattle.hm_layout.proofs.Places.{head_or, rest_of}
 use Rattle.hm_layout.proofs.Search.{one_rule}
 use Rattle.hm_layout.proofs.Coded.{Coded, Digit, digit}
-use Rattle.hm_layout.proofs.Rows.{Row, at, the_name, Named, named, coded, sparing}
+use Rattle.hm_layout.proofs.Rows.{CodeRow, at, the_name, Named, named, coded, sparing}
 use Rattle.hm_layout.proofs.Tables.{of_table, ◌▹◌}
 
 abbrev pub row_offset : Named offset_.the_type access_.enum code_offset (λ x. wide_access_base x + 0x00800000)
@@ -84,7 +84,7 @@ pub some_use : (x : PairName) (p w n t u : ℕ) → IsTrue (is_pair x p w n t u)
 some_use x p w n t u k e f = grind (arith, nat_tests)
 
 -- with neither an offset nor writeback other rows stand
-abbrev pub spared_t13 : Row T13
+abbrev pub spared_t13 : CodeRow T13
 spared_t13 =
     sparing (named row_t13) (λ x. (digit 24 1 0 ∷ digit 21 1 0 ∷ []) ∷ [])
     (λ r d. (

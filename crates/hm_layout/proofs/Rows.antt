@@ -118,8 +118,8 @@ pub record Naming (A : Type 0) (E : enum.Record) : Type 1 where
 abbrev pub the_name : {E : enum.Record} → Bare E.parts → Naming E.D E
 the_name {E = E} bare = record { bare = bare; to = λ x. x; one = λ a b e. e; tried = try_names E bare }
 
--- a row: what its codes are made of. The name of an operation gives the base and the places
-pub record Row (R : Type 0) : Type 1 where
+-- a row by its codes: what they are made of. The name of an operation gives the base and the places
+pub record CodeRow (R : Type 0) : Type 1 where
   pub Name : Type 0
   pub names : List Name
   pub name : R → Name
@@ -136,34 +136,34 @@ pub record Row (R : Type 0) : Type 1 where
   pub told : is_fit ≡ true → (a b : R) → name a ≡ name b → numbers a ≡ numbers b → a ≡ b
   pub tried : Tried R
 
-abbrev pub kind_of : {R : Type 0} (row : Row R) → row.Name → Kind
+abbrev pub kind_of : {R : Type 0} (row : CodeRow R) → row.Name → Kind
 kind_of row x = record { bits = fills (bits_of 32 (row.base x)) (row.places x); without = row.without x }
 
 -- the places lie apart, where the base is 0
-abbrev pub is_good : {R : Type 0} (row : Row R) → row.Name → Bool
+abbrev pub is_good : {R : Type 0} (row : CodeRow R) → row.Name → Bool
 is_good row x = are_disjoint (row.places x) && (are_clear (bits_of 32 (row.base x)) (row.places x) && nat_lt (row.base x) (2 ^ 32))
 
-abbrev pub all_good : {R : Type 0} (row : Row R) → List row.Name → Bool
+abbrev pub all_good : {R : Type 0} (row : CodeRow R) → List row.Name → Bool
 all_good row [] = true
 all_good row (x ∷ xs) = is_good row x && all_good row xs
 
-good_at : {R : Type 0} (row : Row R) (x : row.Name) (xs : List row.Name) → all_good row xs ≡ true → Member x xs → is_good row x ≡ true
+good_at : {R : Type 0} (row : CodeRow R) (x : row.Name) (xs : List row.Name) → all_good row xs ≡ true → Member x xs → is_good row x ≡ true
 good_at row x [] e m = absurd m
 good_at row x (y ∷ ys) e (inl f) = ap (is_good row) f ∙ both_left _ _ e
 good_at row x (y ∷ ys) e (inr m) = good_at row x ys (both_right _ _ e) m
 
-abbrev pub is_row : {R : Type 0} (row : Row R) → Bool
+abbrev pub is_row : {R : Type 0} (row : CodeRow R) → Bool
 is_row row = row.is_fit && (all_good row row.names && pairwise (map (kind_of row) row.names))
 
 less : (m n : ℕ) → nat_lt m n ≡ true → m < n
 less m n e = grind (arith, nat_tests)
 
 -- the code of a name and numbers
-abbrev pub sum_of : {R : Type 0} (row : Row R) → row.Name → List ℕ → ℕ
+abbrev pub sum_of : {R : Type 0} (row : CodeRow R) → row.Name → List ℕ → ℕ
 sum_of row x xs = row.base x + placed (row.places x) xs
 
 -- the numbers stand in the code
-sum_digits : {R : Type 0} (row : Row R) → is_row row ≡ true → (x : row.Name) (xs : List ℕ) → Member x row.names → Fits (row.places x) xs
+sum_digits : {R : Type 0} (row : CodeRow R) → is_row row ≡ true → (x : row.Name) (xs : List ℕ) → Member x row.names → Fits (row.places x) xs
     → digits (row.places x) (sum_of row x xs) ≡ xs
 sum_digits row e x xs m f =
     let good : is_good row x ≡ true = good_at row x row.names (both_left _ _ (both_right _ _ e)) m in
@@ -171,13 +171,13 @@ sum_digits row e x xs m f =
     (bits_of_lem 32 (row.base x) (less _ _ (both_right _ _ (both_right _ _ good)))) f
 
 -- the numbers of a row's value stand in its code
-pub row_digits : {R : Type 0} (row : Row R) → is_row row ≡ true → (r : R) → digits (row.places (row.name r)) (row.code r) ≡ row.numbers r
+pub row_digits : {R : Type 0} (row : CodeRow R) → is_row row ≡ true → (r : R) → digits (row.places (row.name r)) (row.code r) ≡ row.numbers r
 row_digits row e r =
     ap (digits (row.places (row.name r))) (row.is_code r)
     ∙ sum_digits row e (row.name r) (row.numbers r) (row.listed r) (row.fits (both_left _ _ e) r)
 
 -- each code has what is known of its kind
-pub row_has : {R : Type 0} (row : Row R) → is_row row ≡ true → (r : R) → Has (kind_of row (row.name r)) (row.code r)
+pub row_has : {R : Type 0} (row : CodeRow R) → is_row row ≡ true → (r : R) → Has (kind_of row (row.name r)) (row.code r)
 row_has row e r =
     let good : is_good row (row.name r) ≡ true = good_at row (row.name r) row.names (both_left _ _ (both_right _ _ e)) (row.listed r) in
     record {
@@ -190,7 +190,7 @@ row_has row e r =
     }
 
 -- a code tells the row's value
-pub row_one : {R : Type 0} (row : Row R) → is_row row ≡ true → (a b : R) → row.code a ≡ row.code b → a ≡ b
+pub row_one : {R : Type 0} (row : CodeRow R) → is_row row ≡ true → (a b : R) → row.code a ≡ row.code b → a ≡ b
 row_one row e a b same =
     let has : Has (kind_of row (row.name a)) (row.code b) = subst (λ n. Has (kind_of row (row.name a)) n) same (row_has row e a) in
     let name : row.name a ≡ row.name b =
@@ -201,7 +201,7 @@ row_one row e a b same =
     row.told (both_left _ _ e) a b name numbers
 
 -- a row's values, told by their codes
-abbrev pub coded : {R : Type 0} → Row R → Coded R
+abbrev pub coded : {R : Type 0} → CodeRow R → Coded R
 coded row = record {
   code = row.code;
   kinds = map (kind_of row) row.names;
@@ -238,7 +238,7 @@ pub record Plain (T : struct.Declared) (code : T.D → ℕ) : Type 1 where
   pub is_code : (r : T.D) → code r ≡ base + placed (places_of T.parts layout) (numbers_of T.parts layout (T.as_values r))
   pub rules : (v : Values T.parts) → Decided (T.cover.Ghost v)
 
-abbrev pub plain : {T : struct.Declared} {code : T.D → ℕ} → Plain T code → Row T.D
+abbrev pub plain : {T : struct.Declared} {code : T.D → ℕ} → Plain T code → CodeRow T.D
 plain {T = T} {code = code} row = record {
   Name = Unit {0};
   names = tt ∷ [];
@@ -315,7 +315,7 @@ pub record Named (T : struct.Declared) (E : enum.Record) (code : T.D → ℕ) (b
       → code r ≡ base (name_of E T.parts layout (T.as_values r)) + placed (places_after E T.parts layout) (after_name E T.parts layout (T.as_values r))
   pub rules : (v : Values T.parts) → Decided (T.cover.Ghost v)
 
-abbrev pub named : {T : struct.Declared} {E : enum.Record} {code : T.D → ℕ} {base : E.D → ℕ} → Named T E code base → Row T.D
+abbrev pub named : {T : struct.Declared} {E : enum.Record} {code : T.D → ℕ} {base : E.D → ℕ} → Named T E code base → CodeRow T.D
 named {T = T} {E = E} {code = code} {base = base} row = record {
   Name = E.D;
   names = names_of E (bare_of E T.parts row.layout);
@@ -344,7 +344,7 @@ pub record Varied (T : struct.Declared) (E : enum.Record) (code : T.D → ℕ) (
       + placed (places (name_of E T.parts layout (T.as_values r))) (after_name E T.parts layout (T.as_values r))
   pub rules : (v : Values T.parts) → Decided (T.cover.Ghost v)
 
-abbrev pub varied : {T : struct.Declared} {E : enum.Record} {code : T.D → ℕ} {base : E.D → ℕ} → Varied T E code base → Row T.D
+abbrev pub varied : {T : struct.Declared} {E : enum.Record} {code : T.D → ℕ} {base : E.D → ℕ} → Varied T E code base → CodeRow T.D
 varied {T = T} {E = E} {code = code} {base = base} row = record {
   Name = E.D;
   names = names_of E (bare_of E T.parts row.layout);
@@ -384,7 +384,7 @@ pub record Split (T : struct.Declared) (Sort : Type 0) (code : T.D → ℕ) : Ty
   pub tried : Tried (Values T.parts)
   pub rules : (v : Values T.parts) → Decided (T.cover.Ghost v)
 
-abbrev pub split : {T : struct.Declared} {Sort : Type 0} {code : T.D → ℕ} → Split T Sort code → Row T.D
+abbrev pub split : {T : struct.Declared} {Sort : Type 0} {code : T.D → ℕ} → Split T Sort code → CodeRow T.D
 split {T = T} {Sort = Sort} {code = code} row = record {
   Name = Sort;
   names = row.sorts.all;
@@ -404,8 +404,8 @@ split {T = T} {Sort = Sort} {code = code} row = record {
 }
 
 -- a row, and more digits that do not stand together in its codes, where those of another row have them
-abbrev pub sparing : {R : Type 0} (row : Row R) (more : row.Name → List (List Digit))
-    → ((r : R) → digits (row.places (row.name r)) (row.code r) ≡ row.numbers r → Spared (more (row.name r)) (row.code r)) → Row R
+abbrev pub sparing : {R : Type 0} (row : CodeRow R) (more : row.Name → List (List Digit))
+    → ((r : R) → digits (row.places (row.name r)) (row.code r) ≡ row.numbers r → Spared (more (row.name r)) (row.code r)) → CodeRow R
 sparing row more proof = record row {
   without = λ x. more x ++ row.without x;
   spared = λ e r d. spared_both (more (row.name r)) (row.without (row.name r)) (row.code r) (proof r d) (row.spared e r d);

@@ -25,7 +25,7 @@ use Rattle.hm_text16_rows.specs.Mnemonics.{letters_above}
 use Rattle.hm_text16_codes.proofs.Words.{a_condition, a_low}
 use Rattle.hm_text16_rows.proofs.Registers.{Braces, low_braces, pop_braces, push_braces}
 use Rattle.hm_text16_codes.proofs.Forms.{reads_one}
-use Rattle.hm_text16_codes.proofs.Asked.{Row, plain_row}
+use Rattle.hm_text16_codes.proofs.Asked.{RowLaw, plain_row}
 
 -- ---- lists
 
@@ -158,7 +158,7 @@ code_of_list name i t o is e =
 pub some_listed : (i : S20) (t : Tok) (o : Operands) → o ≡ operands_of (narrow.S20 i) t → 0 < o.registers
 some_listed i t o e = subst (λ (x : Operands). 0 < x.registers) (sym e) (row_of_list i).some
 
-pub row_s20 : (i : S20) → Row (narrow.S20 i)
+pub row_s20 : (i : S20) → RowLaw (narrow.S20 i)
 row_s20 i = record { gives = λ t l. refl; prints = (row_of_list i).prints }
 
 -- ---- blocks
@@ -168,7 +168,7 @@ mnemonic_low zero m hl lt = below_holds (λ j. is_mnemonic (codes "it" ++ letter
 mnemonic_low (suc zero) m hl lt = below_holds (λ j. is_mnemonic (codes "it" ++ letters_above 1 j)) 16 m refl lt
 mnemonic_low (suc (suc low)) m hl lt = absurd (omega arith)
 
-pub row_s21 : (i : S21) → Row (narrow.S21 i)
+pub row_s21 : (i : S21) → RowLaw (narrow.S21 i)
 row_s21 i =
     plain_row (narrow.S21 i) _ refl (λ t. refl)
     (reads_one _ _ _ (mnemonic_low (i.c.value % 2) i.mask.value (omega arith) i.mask.in_range) (a_condition i.c.value i.c.in_range))

@@ -13,7 +13,7 @@ use Rattle.hm_isa.specs.Letters.{access_size, base_register, plain_access, shift
 use Rattle.hm_text_rows.proofs.Branches.{mnemonic_branch}
 use Rattle.hm_text_rows.proofs.Words.{below_holds}
 use Rattle.hm_text16_codes.specs.Operands.{word_value}
-use Rattle.hm_text16_codes.proofs.Asked.{Row, label_row, plain_row}
+use Rattle.hm_text16_codes.proofs.Asked.{RowLaw, label_row, plain_row}
 use Rattle.hm_text16_codes.proofs.Forms.{reads_by_number, reads_by_register, reads_constant, reads_label, reads_none, reads_one, reads_one_constant}
 use Rattle.hm_text16_codes.proofs.Forms.{reads_register_label, reads_three, reads_two, reads_two_constant}
 use Rattle.hm_text16_codes.proofs.Lists.{row_s20, row_s21}
@@ -44,7 +44,7 @@ the_i = record { value = refl; is = refl }
 low : (n : ℕ) → n < 8 → n < 16
 low n lt = omega arith
 
-pub row_law : (r : NarrowRow) → Row r
+pub row_law : (r : NarrowRow) → RowLaw r
 row_law (narrow.S1 i) =
     plain_row (narrow.S1 i) _ refl (λ t. refl)
     (reads_two_constant _ _ _ _ _ _ (grind arith) (a_low i.d.value i.d.in_range) (a_low i.m.value i.m.in_range) (shift_small i.name i.i.value i.i.in_range))

@@ -11,7 +11,7 @@ use Rattle.hm_text32_codes.specs.Operands.{mnemonic_in, operands_in}
 use Rattle.hm_text32_rows.specs.Rows.{has_label, row_tokens, tokens_of}
 use Rattle.hm_text32_codes.proofs.Forms.{Reads}
 
-pub record Row (r : WideRow) : Type 0 where
+pub record RowLaw (r : WideRow) : Type 0 where
   pub mnemonic : (t : Tok) → mnemonic_in (tokens_of r t) ≡ mnemonic_of r
   pub gives : (t : Tok) → IsLabel t → operands_in (tokens_of r t) ≡ operands_of r t
   pub prints : IsPrintedRow (has_label r) (row_tokens r)
@@ -27,7 +27,7 @@ abbrev pub RowReads : WideRow → Type 0
 RowReads r = Reads (row_tokens r) (mnemonic_of r) (operands_of r comma)
 
 -- of a row with no label
-pub plain_row : (r : WideRow) → has_label r ≡ false → ((t : Tok) → operands_of r t ≡ operands_of r comma) → RowReads r → Row r
+pub plain_row : (r : WideRow) → has_label r ≡ false → ((t : Tok) → operands_of r t ≡ operands_of r comma) → RowReads r → RowLaw r
 plain_row r plain same reads = record {
   mnemonic = λ t. subst (λ (b : Bool). mnemonic_in (cond b (row_tokens r ++ t ∷ []) (row_tokens r)) ≡ mnemonic_of r) (sym plain) reads.mnemonic;
   gives =
@@ -40,7 +40,7 @@ plain_row r plain same reads = record {
 abbrev pub LabelReads : WideRow → Type 0
 LabelReads r = ReadsAt (row_tokens r) (mnemonic_of r) (operands_of r)
 
-pub label_row : (r : WideRow) → has_label r ≡ true → LabelReads r → Row r
+pub label_row : (r : WideRow) → has_label r ≡ true → LabelReads r → RowLaw r
 label_row r yes_ reads = record {
   mnemonic = λ t. subst (λ (b : Bool). mnemonic_in (cond b (row_tokens r ++ t ∷ []) (row_tokens r)) ≡ mnemonic_of r) (sym yes_) (reads.mnemonic t);
   gives = λ t l. subst (λ (b : Bool). operands_in (cond b (row_tokens r ++ t ∷ []) (row_tokens r)) ≡ operands_of r t) (sym yes_) (reads.gives t l);

@@ -16,7 +16,7 @@ use Rattle.hm_text32_rows.proofs.Lists.{few_listed}
 use Rattle.hm_text32_codes.specs.declared.operands.Operands.{Operands}
 use Rattle.hm_text32_codes.specs.Asked.{operands_of}
 use Rattle.hm_text32_codes.specs.Operands.{read_operands, second_bang, value}
-use Rattle.hm_text32_codes.proofs.Asked.{Row}
+use Rattle.hm_text32_codes.proofs.Asked.{RowLaw}
 use Rattle.hm_text32_codes.proofs.Forms.{a_register, the_mnemonic}
 
 mnemonic_list : (name : WideListName) → is_mnemonic (wide_list_mnemonic name) ≡ true
@@ -52,7 +52,7 @@ list_back i t o e =
     subst (λ (x : Operands). list_code (wide_list_base i.name) x ≡ code_t14 i) (sym e)
     (list_sum i (span point (wide_list_mnemonic i.name ++ wide_list_suffix i.name)).1)
 
-pub row_t14 : (i : T14) → Row (wide.T14 i)
+pub row_t14 : (i : T14) → RowLaw (wide.T14 i)
 row_t14 i = record {
   mnemonic =
       λ t. the_mnemonic (wide_list_mnemonic i.name) (wide_list_suffix i.name) (base_and_list i.w.value i.n.value i.list.value) (mnemonic_list i.name)

@@ -19,7 +19,7 @@ use Rattle.hm_text32_rows.specs.Rows.{other_tokens}
 use Rattle.hm_text32_codes.specs.Asked.{none_given}
 use Rattle.hm_text32_codes.specs.Operands.{mnemonic_in, operands_in}
 use Rattle.hm_text32_codes.proofs.Arith.{row_accumulate, row_long, row_operation, row_t10, row_t20, row_t8, row_t9}
-use Rattle.hm_text32_codes.proofs.Asked.{Row, label_row, plain_row}
+use Rattle.hm_text32_codes.proofs.Asked.{RowLaw, label_row, plain_row}
 use Rattle.hm_text32_codes.proofs.Data.{row_t3, row_t4, row_t5, row_t6, row_t7}
 use Rattle.hm_text32_codes.proofs.Lists.{row_t14}
 use Rattle.hm_text32_codes.proofs.Memory.{row_indexed, row_literal, row_offset, row_scaled, row_t13}
@@ -29,7 +29,7 @@ use Rattle.hm_text32_codes.proofs.System.{other_barrier_reads, row_barrier, row_
 use Rattle.hm_text32_codes.proofs.System.{row_t15, row_t17, row_t21, row_t22}
 use Rattle.hm_text32_codes.proofs.System.{row_write}
 
-pub row_law : (r : WideRow) → Row r
+pub row_law : (r : WideRow) → RowLaw r
 row_law (wide.T1 i) = plain_row _ refl (λ t. refl) (row_t1 i)
 row_law (wide.T2 i) = plain_row _ refl (λ t. refl) (row_t2 i)
 row_law (wide.T3 i) = plain_row _ refl (λ t. refl) (row_t3 i)

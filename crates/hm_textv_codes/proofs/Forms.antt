@@ -26,8 +26,8 @@ pub record Reads (ts : List Tok) (s : List ℕ) (o : Operands) : Type 0 where
   pub prints : IsReadBack ts
 
 -- the text of a row is so with what it gives
-abbrev pub Row : Vector → Type 0
-Row v = Reads (tokens_of v) (mnemonic_of v) (operands_of v)
+abbrev pub RowLaw : Vector → Type 0
+RowLaw v = Reads (tokens_of v) (mnemonic_of v) (operands_of v)
 
 -- WORDS
 -- a word that is an operand: its number, and whether it is a vector register

@@ -43,7 +43,7 @@ use Rattle.hm_textv_codes.proofs.Constants.{constant_reads}
 use Rattle.hm_textv_codes.proofs.Endings.{Suffix, no_suffix, signed_access, suffix_access, suffix_by_sign, suffix_compare, suffix_complex_sum}
 use Rattle.hm_textv_codes.proofs.Endings.{suffix_element, suffix_integer, suffix_narrow, suffix_one, suffix_scalar, suffix_shift, suffix_signed}
 use Rattle.hm_textv_codes.proofs.Endings.{suffix_unsigned, suffix_widening}
-use Rattle.hm_textv_codes.proofs.Forms.{Reads, Row, a_condition, a_register, a_vector, bare, even, low, odd, reads_four, reads_none, reads_one}
+use Rattle.hm_textv_codes.proofs.Forms.{Reads, RowLaw, a_condition, a_register, a_vector, bare, even, low, odd, reads_four, reads_none, reads_one}
 use Rattle.hm_textv_codes.proofs.Forms.{reads_three, reads_three_constant, reads_two, reads_two_constant, register_or_zero}
 use Rattle.hm_textv_codes.proofs.Told.{access_at, interleaved_at}
 
@@ -115,7 +115,7 @@ interleaved_reads (suc zero) l p z d w n hf hz hw e mnemonic =
 interleaved_reads (suc (suc f)) l p z d w n hf hz hw e mnemonic = absurd (omega arith)
 
 -- ROWS AS THEY ARE PRINTED
-pub row_law : (v : Vector) → Row v
+pub row_law : (v : Vector) → RowLaw v
 row_law (vector.V1 i) = reads_three (grind arith) (suffix_integer i.z.in_range) (a_vector i.d) (a_vector i.n) (a_vector i.m)
 row_law (vector.V2 i) = bare (reads_three (grind arith) no_suffix (a_vector i.d) (a_vector i.n) (a_vector i.m))
 row_law (vector.V3 i) = reads_three (grind arith) (suffix_by_sign i.u.in_range i.z.in_range) (a_vector i.d) (a_vector i.n) (a_vector i.m)
