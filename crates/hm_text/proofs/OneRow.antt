@@ -22,6 +22,7 @@ use Rattle.hm_text16_codes.proofs.Unique as narrow_unique
 use Rattle.hm_text16_rows.specs.Rows as narrow_rows
 use Rattle.hm_text32_codes.specs.Asked as wide_asked
 use Rattle.hm_text32_codes.specs.Operands as wide_operands
+use Rattle.hm_text32_codes.proofs.Forms.{mnemonic_in}
 use Rattle.hm_text32_codes.proofs.Rows as wide_laws
 use Rattle.hm_text32_codes.proofs.Unique as wide_unique
 use Rattle.hm_text32_rows.specs.Rows as wide_rows
@@ -141,7 +142,7 @@ printed_and_other r s t ts label is other =
     let o = wide_laws.other_law s ts other in
     let law = wide_laws.row_law r in
     wide_unique.bare_alone o.barrier r t
-    (o.option, sym (law.mnemonic t) ∙ ap wide_operands.mnemonic_in is ∙ o.mnemonic, sym (law.gives t label) ∙ ap wide_operands.operands_in is ∙ o.gives)
+    (o.option, sym (law.mnemonic t) ∙ ap mnemonic_in is ∙ o.mnemonic, sym (law.gives t label) ∙ ap wide_operands.operands_in is ∙ o.gives)
 
 -- other texts both
 both_other : (r s : WideRow) (ts : List Tok) → wide_laws.Other r ts → wide_laws.Other s ts → wide_code r ≡ wide_code s
@@ -152,7 +153,7 @@ one_code : (ts : List Tok) (pc a : ℕ) (r s : WideRow) (t u : Tok) → pc < 2 ^
     → Reaches (wide_targets.target s pc) a → AreOfRow (by.Wide r) t ts → AreOfRow (by.Wide s) u ts → wide_code r ≡ wide_code s
 one_code ts pc a r s t u hp lt lu p q (inl is) (inl also) =
     let same : wide_rows.tokens_of r t ≡ wide_rows.tokens_of s u = is ∙ sym also in
-    let mnemonics = sym ((wide_laws.row_law r).mnemonic t) ∙ ap wide_operands.mnemonic_in same ∙ (wide_laws.row_law s).mnemonic u in
+    let mnemonics = sym ((wide_laws.row_law r).mnemonic t) ∙ ap mnemonic_in same ∙ (wide_laws.row_law s).mnemonic u in
     let operands = sym ((wide_laws.row_law r).gives t lt) ∙ ap wide_operands.operands_in same ∙ (wide_laws.row_law s).gives u lu in
     wide_unique.same_code r s t u pc a mnemonics operands hp p q
 one_code ts pc a r s t u hp lt lu p q (inl is) (inr also) = absurd (printed_and_other r s t ts lt is also)

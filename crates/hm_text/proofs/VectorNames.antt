@@ -15,7 +15,7 @@ use Rattle.hm_textv_rows.specs.Rows.{HasTokens}
 use Rattle.hm_textv_codes.specs.declared.operands.Operands.{Operands}
 use Rattle.hm_textv_codes.specs.Asked.{AsksOther, mnemonic_of}
 use Rattle.hm_textv_codes.specs.Names.{interleaved_mnemonic}
-use Rattle.hm_textv_codes.specs.Operands.{read_text}
+use Rattle.hm_textv_codes.proofs.Forms.{read_text}
 use Rattle.hm_textv_codes.proofs.Rows.{text_law}
 use Rattle.hm_textv_codes.proofs.Told.{access_at, interleaved_at}
 

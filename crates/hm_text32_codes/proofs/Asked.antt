@@ -7,9 +7,9 @@ use Rattle.hm_text_rows.proofs.Printed.{IsPrintedAt}
 use Rattle.hm_text_rows.proofs.Shown.{IsPrintedRow}
 use Rattle.hm_text32_codes.specs.declared.operands.Operands.{Operands}
 use Rattle.hm_text32_codes.specs.Asked.{mnemonic_of, operands_of}
-use Rattle.hm_text32_codes.specs.Operands.{mnemonic_in, operands_in}
+use Rattle.hm_text32_codes.specs.Operands.{operands_in}
 use Rattle.hm_text32_rows.specs.Rows.{has_label, row_tokens, tokens_of}
-use Rattle.hm_text32_codes.proofs.Forms.{Reads}
+use Rattle.hm_text32_codes.proofs.Forms.{Reads, mnemonic_in}
 
 pub record RowLaw (r : WideRow) : Type 0 where
   pub mnemonic : (t : Tok) → mnemonic_in (tokens_of r t) ≡ mnemonic_of r

@@ -1,5 +1,5 @@
 -- Rows T1, T2 and T8: what their mnemonics say, and that a text is of one of them.
-use Rattle.std.proofs.Common.{◌≡◌, ℕ, ◌<◌, Bool, true, false, Some, refl, sym, ap, ◌∙◌, arith}
+use Rattle.std.proofs.Common.{◌≡◌, ℕ, ◌<◌, Bool, true, false, List, Some, refl, sym, ap, ◌∙◌, arith}
 use Rattle.std.specs.Prelude.{is_some}
 use Rattle.std.proofs.lemmas.Bool.{agree_below_at, false≢true}
 use Rattle.std.proofs.lemmas.Bool.Decides.{nat_tests}
@@ -23,7 +23,7 @@ use Rattle.hm_text32_codes.specs.declared.names.DataKind.{DataKind}
 use Rattle.hm_text32_codes.specs.declared.names.DataKind.TheVariants as kind
 use Rattle.hm_text32_codes.specs.declared.operands.Operands.{Operands}
 use Rattle.hm_text32_codes.specs.Asked.{Letters, given, kind_of, kind_operands, letters_t1, letters_t2, mnemonic_of, operands_of}
-use Rattle.hm_text32_codes.specs.Names.{has_data_mnemonic, kind_in, kind_mnemonic, turn_of}
+use Rattle.hm_text32_codes.specs.Names.{kind_in, kind_mnemonic, turn_of}
 use Rattle.hm_text32_codes.proofs.Immediates.{field_back}
 use Rattle.hm_text32_codes.proofs.Inverses.{five_below}
 
@@ -122,6 +122,10 @@ same_data (wide.T2 i) (wide.T8 j) t u e f em eo = absurd (no_shift (letters_t2 i
 same_data (wide.T8 i) (wide.T1 j) t u e f em eo = absurd (no_shift (letters_t1 j) (said_t1 j) i (sym em) (sym eo))
 same_data (wide.T8 i) (wide.T2 j) t u e f em eo = absurd (no_shift (letters_t2 j) (said_t2 j) i (sym em) (sym eo))
 same_data r s t u e f em eo = absurd cc
+
+-- T1, T2 and T8: whether a mnemonic is that of AND to RSB, TST to CMP, MOV and MVN, RRX, or LSL to ROR
+abbrev pub has_data_mnemonic : List ℕ → Bool
+has_data_mnemonic s = is_some (kind_in s)
 
 -- no other row has a mnemonic of theirs
 pub data_row : (r : WideRow) → has_data_mnemonic (mnemonic_of r) ≡ is_data_row r

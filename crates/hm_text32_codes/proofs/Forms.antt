@@ -3,20 +3,25 @@ use Rattle.std.proofs.Common.{◌≡◌, ℕ, ◌^◌, ◌<◌, ◌≤◌, Bool,
 use Rattle.std.proofs.lemmas.List.{append-nil}
 use Rattle.std.proofs.lemmas.Bool.{agree_below_at, cases_Bool, eqb-true}
 use Rattle.std.specs.Prelude.{cond, codes, min, nat_eq}
+use Rattle.hm_text_base.specs.Spans.{span}
 use Rattle.hm_tokens.proofs.Again.{are_apart}
 use Rattle.hm_tokens.proofs.Ranges.{has_no_ranges, normal_same}
 use Rattle.hm_tokens.specs.Ranges.{normal}
 use Rattle.hm_tokens.specs.Names.{condition_name, register_name, vector_name}
-use Rattle.hm_tokens.specs.Tokens.{Tok, word, comma}
+use Rattle.hm_tokens.specs.Tokens.{Tok, word, comma, point}
 use Rattle.hm_text32_codes.specs.declared.operands.Operands.{Operands}
 use Rattle.hm_text32_codes.specs.Asked.{given_all}
-use Rattle.hm_text32_codes.specs.Operands.{mnemonic_in, operands_in, read_operands, word_value}
-use Rattle.hm_text_rows.specs.Operands.{bits_of, braced, is_vector_name, size_of}
+use Rattle.hm_text32_codes.specs.Operands.{operands_in, read_operands, word_value}
+use Rattle.hm_text_rows.specs.Operands.{bits_of, braced, first_word, is_vector_name, size_of}
 use Rattle.hm_text32_rows.specs.Mnemonics.{shift_mnemonic, wide}
 use Rattle.hm_text_rows.specs.Mnemonics.{element_suffix}
 use Rattle.hm_text_rows.specs.Shapes.{and_constant, and_operand, and_shift, constant, four, one, three, two}
 use Rattle.hm_text_rows.proofs.Words.{◌▹◌, below_holds, below_is, cut, is_name, is_mnemonic, is_suffix, word_q, word_r}
 use Rattle.hm_text_rows.proofs.Printed.{AreShort, IsPrinted, IsShort, is_printed_as, room, short_comma, short_hash, short_number, short_word}
+
+-- the mnemonic of tokens
+abbrev pub mnemonic_in : List Tok → List ℕ
+mnemonic_in ts = (span point (first_word ts)).0
 
 -- tokens with this mnemonic and these operands, which are printed and read back
 pub record Reads (ts : List Tok) (s : List ℕ) (o : Operands) : Type 0 where

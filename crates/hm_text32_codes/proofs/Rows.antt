@@ -17,10 +17,11 @@ use Rattle.hm_tokens.specs.Tokens.{Tok, word}
 use Rattle.hm_text32_rows.specs.Mnemonics.{barrier_mnemonic}
 use Rattle.hm_text32_rows.specs.Rows.{other_tokens}
 use Rattle.hm_text32_codes.specs.Asked.{none_given}
-use Rattle.hm_text32_codes.specs.Operands.{mnemonic_in, operands_in}
+use Rattle.hm_text32_codes.specs.Operands.{operands_in}
 use Rattle.hm_text32_codes.proofs.Arith.{row_accumulate, row_long, row_operation, row_t10, row_t20, row_t8, row_t9}
 use Rattle.hm_text32_codes.proofs.Asked.{RowLaw, label_row, plain_row}
 use Rattle.hm_text32_codes.proofs.Data.{row_t3, row_t4, row_t5, row_t6, row_t7}
+use Rattle.hm_text32_codes.proofs.Forms.{mnemonic_in}
 use Rattle.hm_text32_codes.proofs.Lists.{row_t14}
 use Rattle.hm_text32_codes.proofs.Memory.{row_indexed, row_literal, row_offset, row_scaled, row_t13}
 use Rattle.hm_text32_codes.proofs.OnLabels.{row_always, row_conditional, row_end, row_wls, row_wlstp}

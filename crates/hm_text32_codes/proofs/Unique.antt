@@ -28,8 +28,7 @@ use Rattle.hm_text32_rows.specs.Mnemonics.{barrier_mnemonic, wide_branch_mnemoni
 use Rattle.hm_text32_rows.specs.Targets.{target}
 use Rattle.hm_text32_codes.specs.declared.operands.Operands.{Operands}
 use Rattle.hm_text32_codes.specs.Asked.{AsksBare, loop_end_mnemonic, mnemonic_of, operands_of}
-use Rattle.hm_text32_codes.specs.Names.{has_data_mnemonic}
-use Rattle.hm_text32_codes.proofs.DataForms.{data_row, is_data_row, same_data}
+use Rattle.hm_text32_codes.proofs.DataForms.{data_row, has_data_mnemonic, is_data_row, same_data}
 use Rattle.hm_text32_codes.proofs.Inverses.{indexed_base, indexed_use, insert_end, offset_base, stack_count}
 use Rattle.hm_text32_codes.proofs.Lists.{list_back, list_code}
 use Rattle.hm_text32_codes.proofs.OnLabels.{ahead_back, always_back, always_code, behind_back, conditional_back, conditional_code}

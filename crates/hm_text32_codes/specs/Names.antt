@@ -1,5 +1,5 @@
 -- The names of rows of two halfwords, no vector rows, that a mnemonic may be of; numbers of shifts, and special registers.
-use Rattle.std.specs.Prelude.{ℕ, Bool, List, [], ◌∷◌, Option, option_map, is_some}
+use Rattle.std.specs.Prelude.{ℕ, List, [], ◌∷◌, Option, option_map}
 use Rattle.std.specs.Option.{option_or}
 use Rattle.hm_isa.specs.declared.arith.AccumulateName.{AccumulateName}
 use Rattle.hm_isa.specs.declared.arith.AccumulateName.TheVariants as accumulate
@@ -142,7 +142,3 @@ turn_of wide_shift.Lsl = 0
 turn_of wide_shift.Lsr = 1
 turn_of wide_shift.Asr = 2
 turn_of wide_shift.Ror = 3
-
--- T1, T2 and T8: whether a mnemonic is that of AND to RSB, TST to CMP, MOV and MVN, RRX, or LSL to ROR
-abbrev pub has_data_mnemonic : List ℕ → Bool
-has_data_mnemonic s = is_some (kind_in s)

@@ -76,10 +76,6 @@ abbrev pub behind_first : List Tok → List Tok
 behind_first [] = []
 behind_first (t ∷ ts) = ts
 
--- the mnemonic of tokens
-abbrev pub mnemonic_in : List Tok → List ℕ
-mnemonic_in ts = (span point (first_word ts)).0
-
 -- the operands of tokens
 abbrev pub operands_in : List Tok → Operands
 operands_in ts = read_operands (span point (first_word ts)).1 (behind_first ts)

@@ -5,20 +5,25 @@ use Rattle.std.proofs.lemmas.List.{append-nil}
 use Rattle.std.specs.Prelude.{codes, min, nat_eq}
 use Rattle.hm_isa.specs.declared.Vector.{Vector}
 use Rattle.hm_isa.specs.declared.fields.Below.{Below}
+use Rattle.hm_text_base.specs.Spans.{span}
 use Rattle.hm_tokens.specs.Names.{register_name, vector_name}
-use Rattle.hm_tokens.specs.Tokens.{Tok, word, number, comma}
+use Rattle.hm_tokens.specs.Tokens.{Tok, word, number, comma, point}
 use Rattle.hm_textv_codes.specs.declared.operands.Kind.{Kind}
 use Rattle.hm_textv_codes.specs.declared.operands.Kind.TheVariants as kinds
 use Rattle.hm_textv_codes.specs.declared.operands.Operands.{Operands}
 use Rattle.hm_textv_codes.specs.Asked.{given, mnemonic_of, operands_of}
-use Rattle.hm_textv_codes.specs.Operands.{kind_by, read_text, word_value}
-use Rattle.hm_text_rows.specs.Operands.{is_vector_name}
+use Rattle.hm_textv_codes.specs.Operands.{kind_by, read_operands, word_value}
+use Rattle.hm_text_rows.specs.Operands.{first_word, is_vector_name}
 use Rattle.hm_text_rows.specs.Shapes.{and_constant, constant, four, three, two}
 use Rattle.hm_text_rows.proofs.Words.{◌▹◌, below_holds, below_is, cut, is_name, is_mnemonic}
 use Rattle.hm_text_rows.proofs.Printed.{IsReadBack, IsShort, is_read_back, short_comma, short_hash, short_number, short_word}
 use Rattle.hm_textv_rows.specs.Mnemonics.{compare_condition}
 use Rattle.hm_textv_rows.specs.Rows.{shifted, tokens_of}
 use Rattle.hm_textv_codes.proofs.Endings.{Suffix}
+
+-- the mnemonic of tokens, which is their first word up to its point, and their operands
+abbrev pub read_text : List Tok → List ℕ × Operands
+read_text ts = ((span point (first_word ts)).0, read_operands (span point (first_word ts)).1 ts)
 
 -- tokens with this mnemonic and these operands
 pub record Reads (ts : List Tok) (s : List ℕ) (o : Operands) : Type 0 where

@@ -37,14 +37,14 @@ use Rattle.hm_textv_rows.specs.Rows.{HasTokens, compare_first_word, interleaved_
 use Rattle.hm_textv_codes.specs.declared.operands.Operands.{Operands}
 use Rattle.hm_textv_codes.specs.Asked.{Asks, AsksOther, IsCodeIn, IsCodeOf, IsOtherCodeOf, interleaved_given, long_given, long_mnemonic}
 use Rattle.hm_textv_codes.specs.Names.{interleaved_mnemonic}
-use Rattle.hm_textv_codes.specs.Operands.{read_operands, read_text}
+use Rattle.hm_textv_codes.specs.Operands.{read_operands}
 use Rattle.hm_textv_codes.proofs.Addresses.{reads_at_offsets, reads_indexed, reads_pair, reads_quad}
 use Rattle.hm_textv_codes.proofs.Constants.{constant_reads}
 use Rattle.hm_textv_codes.proofs.Endings.{Suffix, no_suffix, signed_access, suffix_access, suffix_by_sign, suffix_compare, suffix_complex_sum}
 use Rattle.hm_textv_codes.proofs.Endings.{suffix_element, suffix_integer, suffix_narrow, suffix_one, suffix_scalar, suffix_shift, suffix_signed}
 use Rattle.hm_textv_codes.proofs.Endings.{suffix_unsigned, suffix_widening}
-use Rattle.hm_textv_codes.proofs.Forms.{Reads, RowLaw, a_condition, a_register, a_vector, bare, even, low, odd, reads_four, reads_none, reads_one}
-use Rattle.hm_textv_codes.proofs.Forms.{reads_three, reads_three_constant, reads_two, reads_two_constant, register_or_zero}
+use Rattle.hm_textv_codes.proofs.Forms.{Reads, RowLaw, a_condition, a_register, a_vector, bare, even, low, odd, read_text, reads_four, reads_none}
+use Rattle.hm_textv_codes.proofs.Forms.{reads_one, reads_three, reads_three_constant, reads_two, reads_two_constant, register_or_zero}
 use Rattle.hm_textv_codes.proofs.Told.{access_at, interleaved_at}
 
 -- MNEMONICS

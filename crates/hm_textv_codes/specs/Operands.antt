@@ -1,11 +1,10 @@
 -- What a text gives numbers for, read without a refusal, since the row that is found is asked for its text.
 use Rattle.std.specs.Prelude.{ℕ, Bool, true, false, List, [], ◌∷◌, Option, length, get_or, codes, bytes_eq, ◌==◌, if◌then◌else◌, unwrap_or}
-use Rattle.hm_text_base.specs.Spans.{span}
 use Rattle.hm_tokens.specs.declared.marks.Mark.TheVariants as marks
 use Rattle.hm_tokens.specs.Names.{register_in, vector_in}
-use Rattle.hm_tokens.specs.Tokens.{Tok, word, number, mark, point}
+use Rattle.hm_tokens.specs.Tokens.{Tok, word, number, mark}
 use Rattle.hm_text_rows.specs.Names.{named}
-use Rattle.hm_text_rows.specs.Operands.{added, back_in, before, first_word, is_vector_name, operand, size_of, token_behind, value_by}
+use Rattle.hm_text_rows.specs.Operands.{added, back_in, before, is_vector_name, operand, size_of, token_behind, value_by}
 use Rattle.hm_textv_rows.specs.Mnemonics.{compare_condition}
 use Rattle.hm_textv_codes.specs.declared.operands.Kind.{Kind}
 use Rattle.hm_textv_codes.specs.declared.operands.Kind.TheVariants as kinds
@@ -68,7 +67,3 @@ read_operands suffix ts = record {
   back = back_in ts;
   base_kind = kind_of (token_behind marks.OpenBracket ts);
 }
-
--- the mnemonic of tokens, which is their first word up to its point, and their operands
-abbrev pub read_text : List Tok → List ℕ × Operands
-read_text ts = ((span point (first_word ts)).0, read_operands (span point (first_word ts)).1 ts)

@@ -3,7 +3,8 @@ use Rattle.hm_isa.specs.declared.widths.WideRow.{WideRow}
 use Rattle.hm_isa.specs.Code.{wide_code}
 use Rattle.hm_text_base.specs.Spans.{span}
 use Rattle.hm_tokens.specs.Tokens.{point}
-use Rattle.hm_text32_codes.specs.Operands.{mnemonic_in, operands_in, read_operands}
+use Rattle.hm_text32_codes.specs.Operands.{operands_in, read_operands}
+use Rattle.hm_text32_codes.proofs.Forms.{mnemonic_in}
 use Rattle.hm_text32_codes.proofs.Rows.{other_law, row_law}
 use Rattle.hm_text32_codes.proofs.codes.code_in.Goals as goal
 

@@ -9,8 +9,8 @@ use Rattle.hm_isa.specs.declared.system.T19.TheVariants as t19
 use Rattle.hm_isa.specs.declared.wide.T12.TheVariants as t12
 use Rattle.hm_isa.specs.declared.widths.WideRow.TheVariants as wide
 use Rattle.hm_text_base.proofs.Steps.{some_is}
-use Rattle.hm_text32_codes.specs.Names.{has_data_mnemonic, kind_in}
-use Rattle.hm_text32_codes.proofs.DataForms.{data_row, said_t1, said_t2, told_t8}
+use Rattle.hm_text32_codes.specs.Names.{kind_in}
+use Rattle.hm_text32_codes.proofs.DataForms.{data_row, has_data_mnemonic, said_t1, said_t2, told_t8}
 use Rattle.hm_text32_codes.proofs.Unique.{no_data}
 use Rattle.hm_text32_codes.proofs.codes.code_of.Goals as goal
 
