@@ -1,5 +1,4 @@
 -- Reading: a row that has the tokens is the row of the code that they are given, and all rows with them are one.
-use Rattle.std.specs.Prelude.{◌↔◌}
 use Rattle.std.proofs.Common.{◌≡◌, ℕ, ◌^◌, ◌<◌, List, [], ◌∷◌, Option, Some, None, refl, sym, subst, ap, inl, inr, ◌∙◌, arith}
 use Rattle.hm_codes.proofs.Unique.{unique_code}
 use Rattle.hm_enc32.proofs.Rows.{word_halves}
@@ -40,15 +39,6 @@ none_of = None
 
 pub nothing_is : (j : Instr) → none_of ≡ given j → ⊥
 nothing_is j e = cc
-
--- THE ROW OF A CODE
--- what the decoder says of a row with the tokens, P, where each such row has the code, C
-pub the_row : (P C : Instr → Type 0) (j : Instr) → ((i : Instr) → P i → C i) → ((i : Instr) → (given j ≡ given i) ↔ C i) → (i : Instr) → P i
-    → given j ≡ given i
-the_row P C j coded exact i is = (exact i).1 (coded i is)
-
-pub other_row : (P C : Instr → Type 0) (j : Instr) → ((i : Instr) → P i → C i) → ((i : Instr) → (given j ≡ given i) ↔ C i) → (P j → ⊥) → (i : Instr) → P i → ⊥
-other_row P C j coded exact not i is = not (subst P (sym (some_is j i (the_row P C j coded exact i is))) is)
 
 -- A ROW by its table
 module _ (ts : List Tok) (pc a : ℕ) (i : Instr) (w : ByWidth) (by_table : by_width i ≡ w) (is : IsRowOf ts pc a i) where

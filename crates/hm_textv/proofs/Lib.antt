@@ -1,3 +1,4 @@
 pub mod Laws
 pub mod Fits
+pub mod ByCode
 pub mod Parsing

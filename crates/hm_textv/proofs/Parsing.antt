@@ -12,7 +12,7 @@ use Rattle.hm_textv_codes.proofs.Rows.{text_law}
 use Rattle.hm_textv_rows.specs.Rows.{HasTokens, IsTextOf, other_tokens, tokens_of}
 use Rattle.hm_textv.proofs.Fits.{code_below}
 
-the_code : (ts : List Tok) (w : ℕ) → IsCodeIn ts (Some w) → (v : Vector) → HasTokens v ts → vector_code v ≡ w
+pub the_code : (ts : List Tok) (w : ℕ) → IsCodeIn ts (Some w) → (v : Vector) → HasTokens v ts → vector_code v ≡ w
 the_code ts w given v has = some_is (vector_code v) w (sym (given v has))
 
 pub no_code : (ts : List Tok) → IsCodeIn ts None → (v : Vector) → HasTokens v ts → ⊥
@@ -20,21 +20,6 @@ no_code ts given v has = let f = given v has in cc
 
 pub too_large : (ts : List Tok) (w : ℕ) → IsCodeIn ts (Some w) → 0xffff_ffff < w → (v : Vector) → HasTokens v ts → ⊥
 too_large ts w given lt v has = let is = the_code ts w given v has in let below = code_below v in omega arith
-
-pub no_row : (ts : List Tok) (w : ℕ) → IsCodeIn ts (Some w) → ((v : Vector) → vector_code v ≡ w → ⊥) → (v : Vector) → HasTokens v ts → ⊥
-no_row ts w given none v has = none v (the_code ts w given v has)
-
-abbrev one : Vector → Option Vector
-one v = Some v
-
-pub the_row : (ts : List Tok) (w : ℕ) (u : Vector) → IsCodeIn ts (Some w) → ((v : Vector) → (one u ≡ one v) ↔ (vector_code v ≡ w)) → (v : Vector)
-    → HasTokens v ts → one u ≡ one v
-the_row ts w u given exact v has = (exact v).1 (the_code ts w given v has)
-
-pub other_row : (ts : List Tok) (w : ℕ) (u : Vector) → IsCodeIn ts (Some w) → ((v : Vector) → (one u ≡ one v) ↔ (vector_code v ≡ w)) → (HasTokens u ts → ⊥)
-    → (v : Vector) → HasTokens v ts → ⊥
-other_row ts w u given exact not v has =
-    not (subst (λ (x : Vector). HasTokens x ts) (sym (some_is u v (the_row ts w u given exact v has))) has)
 
 -- AND A WHOLE TEXT
 abbrev no_tokens : Option (List Tok)

@@ -3,7 +3,8 @@ use Rattle.std.proofs.lemmas.Bool.{false≢true}
 use Rattle.hm_isa.specs.declared.Instr.{Instr}
 use Rattle.hm_isa.specs.Code.{halfwords}
 use Rattle.hm_tokens.specs.Tokens.{tok}
-use Rattle.hm_text.proofs.OneRow.{NarrowAt, narrow_halves, narrow_large, narrow_none, other_row, the_row}
+use Rattle.hm_textv.proofs.ByCode.{other_row, the_row}
+use Rattle.hm_text.proofs.OneRow.{NarrowAt, narrow_halves, narrow_large, narrow_none}
 use Rattle.hm_text.proofs.reading.narrow_row.Goals as goal
 
 pub returns-in_err-code-clause-only : goal.returns-in_err-code-clause-only

@@ -3,7 +3,8 @@ use Rattle.std.proofs.lemmas.Bool.{false≢true}
 use Rattle.hm_isa.specs.declared.Instr.{Instr}
 use Rattle.hm_layout.specs.Wide.{HasWord}
 use Rattle.hm_tokens.specs.Tokens.{tok}
-use Rattle.hm_text.proofs.OneRow.{IsGivenIn, WideAt, other_row, the_row, wide_large, wide_none, wide_word}
+use Rattle.hm_textv.proofs.ByCode.{other_row, the_row}
+use Rattle.hm_text.proofs.OneRow.{IsGivenIn, WideAt, wide_large, wide_none, wide_word}
 use Rattle.hm_text.proofs.reading.wide_row.Goals as goal
 
 pub returns-in_err-code-clause-only : goal.returns-in_err-code-clause-only
