@@ -9,7 +9,8 @@ use Rattle.hm_source.specs.declared.values.DatumSize.{DatumSize}
 use Rattle.hm_source.specs.declared.values.Values.{Values}
 use Rattle.hm_source.specs.Directives.{Directed, Datum, align, bytes_each, datum_tokens, list_name, list_tokens, org, space, values}
 use Rattle.hm_source.specs.Places.{HasPlace, HasRoom}
-use Rattle.hm_source.specs.Shown.{AreFront, AreListed, ShowsValues}
+use Rattle.hm_line.specs.Fronts.{AreFront}
+use Rattle.hm_source.specs.Shown.{AreListed, ShowsValues}
 use Rattle.hm_source.specs.Statements.{directive}
 use Rattle.hm_source.proofs.Fronts.{ends_before, front_of_all}
 use Rattle.hm_source.proofs.Listed.{EndsAt}

@@ -13,7 +13,7 @@ use Rattle.hm_line.specs.Kinds as kinds_of
 use Rattle.hm_line.specs.Texts.{AreTokens, is_spaced, next}
 use Rattle.hm_line.proofs.Fronts.{run_le, token_shorter}
 use Rattle.hm_source.specs.Directives.{Datum, datum_tokens}
-use Rattle.hm_source.specs.Shown.{AreFront}
+use Rattle.hm_line.specs.Fronts.{AreFront}
 
 -- COMMAS
 -- behind a comma between operands there are no brackets

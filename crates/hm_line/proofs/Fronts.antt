@@ -1,9 +1,10 @@
 -- Reading a text token by token, and where it stops.
 use Rattle.std.proofs.Common.{◌≡◌, ℕ, ◌<◌, ◌≤◌, Bool, true, false, cond, eqb, ltb, List, [], ◌∷◌, ◌++◌, length, drop, length-drop, Option, Some, None, Result}
 use Rattle.std.proofs.Common.{Ok, Err, refl, sym, ap, subst, inl, inr, ◌∙◌, arith}
-use Rattle.std.specs.Prelude.{MatchResult, IsOk}
+use Rattle.std.specs.Prelude.{MatchResult, IfSome, IsOk}
 use Rattle.std.proofs.lemmas.Bool.{cases_Bool, false≢true, ne_eqb, eq-eqb}
 use Rattle.std.proofs.lemmas.List.{append-nil}
+use Rattle.hm_text_base.specs.Reading.{ReadsSome}
 use Rattle.hm_text_base.proofs.Steps.{some_is, and_then_some, err_is, refused}
 use Rattle.hm_tokens.specs.declared.token.Class.{Class}
 use Rattle.hm_tokens.specs.declared.token.Class.TheVariants as classes
@@ -272,6 +273,12 @@ pub next_token : (form : Form) (text rest here after : List ℕ) (s n : State) (
     → apart ≡ ltb (length here) (length rest) → Some n ≡ line_step form s apart (kind t) → ReadTo form text n after
 next_token form text rest here after s n t apart is r e a step =
     goes_on form text rest after s n t apart r (ap token_at (sym is) ∙ e) (apart_is here rest apart is a) (sym step)
+
+-- what a reader of the next token leaves is shorter
+pub shorter_next : {X : Type 0} (t : X → Tok) (r : X → List ℕ) (o : Option X) (text : List ℕ) (n : ℕ) → ReadsSome (λ x. (t x, r x)) o (token_at text)
+    → length text ≤ n → IfSome o (λ x. length (r x) < n)
+shorter_next t r (Some x) text n e le = omega (arith, token_shorter text (t x, r x) e)
+shorter_next t r None text n e le = tt
 
 -- ---- as the code answers
 

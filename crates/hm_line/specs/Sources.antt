@@ -1,11 +1,11 @@
 -- A line of a source: what is its label, and what its instruction or directive.
-use Rattle.std.specs.Prelude.{◌≡◌, ℕ, Bool, true, false, List, Option, Some, None, option_map, option_and_then, not, ◌==◌, if◌then◌else◌}
+use Rattle.std.specs.Prelude.{◌≡◌, ℕ, Bool, true, false, List, Option, Some, None, option_map, option_and_then, not}
 use Rattle.hm_text_base.specs.Spans.{span}
 use Rattle.hm_tokens.specs.declared.marks.Mark.TheVariants as marks
-use Rattle.hm_tokens.specs.Marks.{mark_byte}
-use Rattle.hm_tokens.specs.Tokens.{Tok, word, number, mark, skip, token_at}
+use Rattle.hm_tokens.specs.Tokens.{skip}
 use Rattle.hm_line.specs.declared.form.Form.TheVariants as forms
 use Rattle.hm_tokens.specs.Names.{is_label_name}
+use Rattle.hm_line.specs.Fronts.{behind_mark, word_in_front}
 use Rattle.hm_line.specs.Texts.{IsOfForm, IsRefused, column}
 
 -- `@`, with which a comment begins
@@ -16,29 +16,9 @@ comment_sign = 64
 abbrev pub before_comment : List ℕ → List ℕ
 before_comment line = (span comment_sign line).0
 
--- a word at the front, and what stands behind it
-abbrev pub word_with : Tok → List ℕ → Option (List ℕ × List ℕ)
-word_with (word w) rest = Some (w, rest)
-word_with (number n) rest = None
-word_with (mark c) rest = None
-
--- the word that is the first token of a text, and what stands behind it; None where no word is first
-abbrev pub word_in_front : List ℕ → Option (List ℕ × List ℕ)
-word_in_front text = option_and_then (λ x. word_with x.0 x.1) (token_at (skip text))
-
--- what stands behind a `:` at the front
-abbrev pub colon_with : Tok → List ℕ → Option (List ℕ)
-colon_with (word w) rest = None
-colon_with (number n) rest = None
-colon_with (mark c) rest = if c == mark_byte marks.Colon then Some rest else None
-
--- what stands behind the first token of a text, where that is `:`
-abbrev pub behind_colon : List ℕ → Option (List ℕ)
-behind_colon text = option_and_then (λ x. colon_with x.0 x.1) (token_at (skip text))
-
 -- the first word and what stands behind its `:`, where `:` follows it
 abbrev pub label_of : List ℕ → Option (List ℕ × List ℕ)
-label_of text = option_and_then (λ x. option_map (λ rest. (x.0, rest)) (behind_colon x.1)) (word_in_front text)
+label_of text = option_and_then (λ x. option_map (λ rest. (x.0, rest)) (behind_mark marks.Colon x.1)) (word_in_front text)
 
 -- that word is no name for a label
 abbrev pub is_bad : Option (List ℕ × List ℕ) → Bool

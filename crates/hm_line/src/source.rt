@@ -2,14 +2,15 @@
 
 ghost use Rattle.std.specs.Prelude.{◌≡◌, ◌≤◌, ◌↔◌, ℕ, length, IfOk, IfSome, IsOk, Err, option_map};
 ghost use Rattle.hm_text_base.specs.Reading.{ReadsSome};
-ghost use Rattle.hm_line.specs.Sources.{before_comment, behind_colon, has_bad_label, instruction_of, label_of, word_in_front, IsLine, IsLineRefused};
+ghost use Rattle.hm_line.specs.Sources.{before_comment, has_bad_label, instruction_of, label_of, IsLine, IsLineRefused};
 ghost use Rattle.hm_line.specs.Texts.{IsOfForm, IsRefused, column};
 ghost use Rattle.hm_tokens.specs.Tokens.{skip};
 
 use crate::form::Form;
 use crate::reading::{check_form, column};
+use crate::tokens::{behind_mark, word_in_front};
 use hm_text_base::span;
-use hm_tokens::{Mark, Token, is_label_name, skip, token_at};
+use hm_tokens::{Mark, is_label_name, skip};
 
 /// A line of a source that is of the form.
 #[derive(Clone, Copy, Debug, PartialEq, Eq)]
@@ -24,37 +25,13 @@ pub struct SourceLine<'a> {
     pub column: u32,
 }
 
-/// A word at the front, and what stands behind it.
-fn word_in_front(text: &[u8]) -> Option<(&[u8], &[u8])>
-    ensures read { ReadsSome (λ x. (x.0.now, x.1.now)) result (word_in_front text.now) }
-    ensures shorter { IfSome result (λ x. length x.1.now ≤ length text.now) }
-{
-    let (token, rest) = token_at(skip(text))?;
-    match token {
-        Token::Word(word) => Some((word, rest)),
-        Token::Number(_) | Token::Mark(_) => None,
-    }
-}
-
-/// What stands behind a `:` at the front.
-fn behind_colon(text: &[u8]) -> Option<&[u8]>
-    ensures read { ReadsSome (λ x. x.now) result (behind_colon text.now) }
-    ensures shorter { IfSome result (λ x. length x.now ≤ length text.now) }
-{
-    let (token, rest) = token_at(skip(text))?;
-    match token {
-        Token::Mark(Mark::Colon) => Some(rest),
-        _ => None,
-    }
-}
-
 /// The first word and what stands behind its `:`, where `:` follows it.
 fn label_of(text: &[u8]) -> Option<(&[u8], &[u8])>
     ensures read { ReadsSome (λ x. (x.0.now, x.1.now)) result (label_of text.now) }
     ensures shorter { IfSome result (λ x. length x.1.now ≤ length text.now) }
 {
     let (word, rest) = word_in_front(text)?;
-    let behind = behind_colon(rest)?;
+    let behind = behind_mark(Mark::Colon, rest)?;
     Some((word, behind))
 }
 

@@ -1,12 +1,11 @@
 -- The tokens at the front of a text: there is one list of them of each length, and fronts go one behind another.
-use Rattle.std.proofs.Common.{◌≡◌, ℕ, ◌<◌, ◌≤◌, List, [], ◌∷◌, ◌++◌, Option, Some, None, length, refl, sym, ap, subst, ◌∙◌, arith}
-use Rattle.std.specs.Prelude.{IfNone, IfSome}
-use Rattle.hm_line.proofs.Fronts.{token_shorter}
+use Rattle.std.proofs.Common.{◌≡◌, ℕ, List, [], ◌∷◌, ◌++◌, Option, Some, None, length, refl, sym, ap, subst, ◌∙◌, arith}
+use Rattle.std.specs.Prelude.{IfNone}
 use Rattle.hm_text_base.proofs.Steps.{some_is}
-use Rattle.hm_text_base.specs.Reading.{ReadsSome}
 use Rattle.hm_tokens.specs.Lines.{AreTokensOf}
 use Rattle.hm_tokens.specs.Tokens.{Tok, word, mark, skip, token_at, comma, plus_mark}
-use Rattle.hm_source.specs.Shown.{AreFront, EndsHere}
+use Rattle.hm_line.specs.Fronts.{AreFront}
+use Rattle.hm_source.specs.Shown.{EndsHere}
 
 -- a token and a rest
 abbrev Next : Type 0
@@ -85,12 +84,6 @@ ends_before mid rest c after f =
 -- nothing stands where a token does
 pub nothing_there : (mid rest : List ℕ) (t : Tok) → skip mid ≡ [] → AreFront mid (t ∷ []) rest → ⊥
 nothing_there mid rest t e f = no_token (t, f.0) (ap token_at (sym e) ∙ f.1)
-
--- what a reader of the next token leaves is shorter
-pub shorter_next : {X : Type 0} (t : X → Tok) (r : X → List ℕ) (o : Option X) (text : List ℕ) (n : ℕ) → ReadsSome (λ x. (t x, r x)) o (token_at text)
-    → length text ≤ n → IfSome o (λ x. length (r x) < n)
-shorter_next t r (Some x) text n e le = omega (arith, token_shorter text (t x, r x) e)
-shorter_next t r None text n e le = tt
 
 pub if_none : {A : Type 0} (o : Option A) (P : Type 0) → P → IfNone o P
 if_none (Some x) P p = tt

@@ -2,7 +2,8 @@
 use Rattle.std.proofs.Common.{◌≡◌, ℕ, true, false, List, [], ◌∷◌, Some, refl, sym, ap, subst, ◌∙◌}
 use Rattle.hm_tokens.specs.Tokens.{word, number, mark, skip, token_at, minus_mark, plus_mark}
 use Rattle.hm_source.specs.Directives.{Datum, literal, named, beyond, datum_tokens}
-use Rattle.hm_source.specs.Shown.{AreFront, EndsHere}
+use Rattle.hm_line.specs.Fronts.{AreFront}
+use Rattle.hm_source.specs.Shown.{EndsHere}
 use Rattle.hm_source.proofs.Fronts.{front_one, mark_is, same_front, same_next, word_is}
 
 -- ---- that a number begins

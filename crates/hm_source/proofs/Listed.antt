@@ -4,7 +4,8 @@ use Rattle.hm_tokens.specs.Lines.{AreTokensOf}
 use Rattle.hm_tokens.specs.Tokens.{skip, comma}
 use Rattle.hm_source.specs.declared.values.DatumSize.{DatumSize}
 use Rattle.hm_source.specs.Directives.{Datum, datum_tokens, list_tokens, Fits}
-use Rattle.hm_source.specs.Shown.{AreFront, AreListed, EndsHere}
+use Rattle.hm_line.specs.Fronts.{AreFront}
+use Rattle.hm_source.specs.Shown.{AreListed, EndsHere}
 use Rattle.hm_source.proofs.Fronts.{all_is_front, ends_at, ends_before, front_and_rest, front_is_all, front_of_all, nothing_there, same_front}
 
 -- one value, and nothing behind it

@@ -2,7 +2,8 @@
 use Rattle.std.specs.Prelude.{◌≡◌, ℕ, List, [], ◌∷◌, length, Some}
 use Rattle.std.specs.List.{AllByRecursion}
 use Rattle.hm_tokens.specs.Lines.{AreTokensOf}
-use Rattle.hm_tokens.specs.Tokens.{Tok, word, skip, token_at, plus_mark}
+use Rattle.hm_tokens.specs.Tokens.{word, skip, token_at, plus_mark}
+use Rattle.hm_line.specs.Fronts.{AreFront}
 use Rattle.hm_source.specs.declared.values.DatumSize.{DatumSize}
 use Rattle.hm_source.specs.declared.values.Item.{Item}
 use Rattle.hm_source.specs.declared.values.Item.TheVariants as items
@@ -13,11 +14,6 @@ use Rattle.hm_source.specs.declared.statements.Statement.{Statement}
 use Rattle.hm_source.specs.declared.statements.Statement.TheVariants as statements
 use Rattle.hm_source.specs.Directives.{Datum, literal, named, beyond, Directed, org, align, space, values, list_name, list_tokens, multiple_of, Fits}
 use Rattle.hm_source.specs.Statements.{Said, nothing, instruction, directive}
-
--- the tokens at the front of a text, and what stands behind them
-abbrev pub AreFront : List ℕ → List Tok → List ℕ → Type 0
-AreFront text [] rest = text ≡ rest
-AreFront text (t ∷ ts) rest = (after : List ℕ) × (token_at (skip text) ≡ Some (t, after)) × AreFront after ts rest
 
 -- no `+` goes on with what stands before
 abbrev pub EndsHere : List ℕ → Type 0

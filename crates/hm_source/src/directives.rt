@@ -2,12 +2,13 @@
 
 ghost use Rattle.std.specs.Prelude.{◌≡◌, ◌<◌, ◌^◌, ℕ, List, [], ◌∷◌, length, IfSome, IfNone, IsSomeAnd};
 ghost use Rattle.hm_source.specs.Directives.{Directed, IsDirective, list_name, multiple_of};
-ghost use Rattle.hm_source.specs.Shown.{AreFront, ShowsDirected};
+ghost use Rattle.hm_source.specs.Shown.{ShowsDirected};
+ghost use Rattle.hm_line.specs.Fronts.{AreFront};
 ghost use Rattle.hm_tokens.specs.Lines.{AreTokensOf};
 ghost use Rattle.hm_tokens.specs.Tokens.{number, word};
 
-use crate::tokens::{number_at, word_in_front};
 use crate::values::{DatumSize, Values, read_values};
+use hm_line::{number_at, word_in_front};
 use hm_tokens::skip;
 
 /// What `.align` fills up to.

@@ -2,11 +2,12 @@
 
 ghost use Rattle.std.specs.Prelude.{◌≡◌, ◌<◌, ◌≤◌, ◌*◌, ◌^◌, ◌↔◌, true, ℕ, List, [], ◌∷◌, length, IsTrue, IfSome, IfNone, IsSomeAnd};
 ghost use Rattle.hm_source.specs.Directives.{Datum, Fits, bytes_each, datum_tokens};
-ghost use Rattle.hm_source.specs.Shown.{AreFront, AreListed, EndsHere, datum};
+ghost use Rattle.hm_source.specs.Shown.{AreListed, EndsHere, datum};
+ghost use Rattle.hm_line.specs.Fronts.{AreFront};
 ghost use Rattle.hm_tokens.specs.Names.{is_label_name};
 ghost use Rattle.hm_tokens.specs.Tokens.{word};
 
-use crate::tokens::{behind_mark, next_token, number_at};
+use hm_line::{behind_mark, next_token, number_at};
 use hm_tokens::{Mark, Token, is_label_name, skip};
 
 /// The size of the values of a list.

@@ -4,7 +4,8 @@ use Rattle.hm_line.specs.Texts.{column}
 use Rattle.hm_line.specs.declared.errors.AsmKind.TheVariants as kinds
 use Rattle.hm_tokens.specs.Tokens.{skip}
 use Rattle.hm_source.specs.Directives.{Directed, Datum, Fits, datum_tokens, values}
-use Rattle.hm_source.specs.Shown.{AreFront, datum}
+use Rattle.hm_line.specs.Fronts.{AreFront}
+use Rattle.hm_source.specs.Shown.{datum}
 use Rattle.hm_source.specs.Statements.{directive}
 use Rattle.hm_source.proofs.Listed.{EndsAt, listed_behind, listed_first}
 use Rattle.hm_asm.specs.Making.{Made, place_of, with_bytes}

@@ -1,7 +1,7 @@
 //! The first tokens of a text.
 
 ghost use Rattle.std.specs.Prelude.{◌≡◌, ◌<◌, ℕ, List, [], ◌∷◌, length, IfSome, IsSomeAnd};
-ghost use Rattle.hm_source.specs.Shown.{AreFront};
+ghost use Rattle.hm_line.specs.Fronts.{AreFront, behind_mark, word_in_front};
 ghost use Rattle.hm_text_base.specs.Reading.{ReadsSome};
 ghost use Rattle.hm_tokens.specs.Marks.{mark_byte};
 ghost use Rattle.hm_tokens.specs.Tokens.{mark, number, skip, tok, token_at, word};
@@ -18,6 +18,7 @@ pub fn next_token(text: &[u8]) -> Option<(Token<'_>, &[u8])>
 
 /// A word at the front of a text, and what stands behind it.
 pub fn word_in_front(text: &[u8]) -> Option<(&[u8], &[u8])>
+    ensures read { ReadsSome (λ x. (x.0.now, x.1.now)) result (word_in_front text.now) }
     ensures found { IfSome result (λ x. AreFront text.now (word x.0.now ∷ []) x.1.now) }
     ensures only { (w rest : List ℕ) → AreFront text.now (word w ∷ []) rest → IsSomeAnd result (λ x. (x.0.now ≡ w) × (x.1.now ≡ rest)) }
     ensures shorter { IfSome result (λ x. length x.1.now < length text.now) }
@@ -44,6 +45,7 @@ pub fn number_at(text: &[u8]) -> Option<(u64, &[u8])>
 
 /// What stands behind a mark at the front of a text.
 pub fn behind_mark(wanted: Mark, text: &[u8]) -> Option<&[u8]>
+    ensures read { ReadsSome (λ x. x.now) result (behind_mark wanted text.now) }
     ensures found { IfSome result (λ rest. AreFront text.now (mark (mark_byte wanted) ∷ []) rest.now) }
     ensures only { (rest : List ℕ) → AreFront text.now (mark (mark_byte wanted) ∷ []) rest → IsSomeAnd result (λ x. x.now ≡ rest) }
     ensures shorter { IfSome result (λ rest. length rest.now < length text.now) }
