@@ -119,7 +119,7 @@ one_narrow ts pc a i j r s e f hp is also =
     let other = row_tokens ts pc a j (by.Narrow s) f also in
     let same : narrow_rows.tokens_of r is.label ≡ narrow_rows.tokens_of s also.label = mine ∙ sym other in
     let operands =
-    sym ((narrow_laws.row_law r).gives is.label is.has.label) ∙ ap narrow_operands.read_operands same
+    sym ((narrow_laws.row_law r).gives is.label is.has.label) ∙ ap narrow_operands.read_narrow_operands same
     ∙ (narrow_laws.row_law s).gives also.label also.has.label in
     let code =
     narrow_unique.same_code r s is.label also.label pc a (ap first_word same) operands hp (row_reaches ts pc a i (by.Narrow r) e is)

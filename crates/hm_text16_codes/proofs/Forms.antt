@@ -11,13 +11,13 @@ use Rattle.hm_text_rows.proofs.Words.{◌▹◌, is_mnemonic}
 use Rattle.hm_text16_codes.specs.declared.operands.Kind.TheVariants as kinds
 use Rattle.hm_text16_codes.specs.declared.operands.Operands.{Operands}
 use Rattle.hm_text16_codes.specs.Asked.{one_given, three_given, two_given}
-use Rattle.hm_text16_codes.specs.Operands.{kind_of, read_operands, value}
+use Rattle.hm_text16_codes.specs.Operands.{kind_of, read_narrow_operands, narrow_value}
 use Rattle.hm_text16_rows.specs.Rows.{by_number, by_register}
 use Rattle.hm_text16_codes.proofs.Words.{Operand, a_register}
 
 -- tokens with these operands
 pub record Reads (ts : List Tok) (o : Operands) : Type 0 where
-  pub gives : read_operands ts ≡ o
+  pub gives : read_narrow_operands ts ≡ o
   pub prints : IsPrinted ts
 
 short_small : (n : ℕ) → n < 10000 → IsShort (number n)
@@ -113,30 +113,30 @@ reads_by_number s t n k mnemonic ht hn lt =
 -- ---- with a label behind
 
 pub record ReadsAt (ts : List Tok) (o : Tok → Operands) : Type 0 where
-  pub gives : (t : Tok) → IsLabel t → read_operands (ts ++ t ∷ []) ≡ o t
+  pub gives : (t : Tok) → IsLabel t → read_narrow_operands (ts ++ t ∷ []) ≡ o t
   pub prints : IsPrintedAt ts
 
-label_gives : (s : List ℕ) (t : Tok) → IsLabel t → read_operands (word s ∷ t ∷ []) ≡ one_given (value t)
+label_gives : (s : List ℕ) (t : Tok) → IsLabel t → read_narrow_operands (word s ∷ t ∷ []) ≡ one_given (narrow_value t)
 unfolding bits_of braced
 label_gives s (word v) is = refl
 label_gives s (number n) is = refl
 label_gives s (mark c) is = absurd is
 
-pub reads_label : (s : List ℕ) → is_mnemonic s ≡ true → ReadsAt (word s ∷ []) (λ t. one_given (value t))
+pub reads_label : (s : List ℕ) → is_mnemonic s ≡ true → ReadsAt (word s ∷ []) (λ t. one_given (narrow_value t))
 reads_label s mnemonic = record {
   gives = label_gives s;
   prints = is_printed_bare_at s [] mnemonic tt refl refl (omega arith) refl;
 }
 
 register_label_gives : (s w : List ℕ) (m : ℕ) → Operand w m → (t : Tok) → IsLabel t
-    → read_operands (word s ∷ word w ∷ comma ∷ t ∷ []) ≡ two_given m (value t) (kind_of t)
+    → read_narrow_operands (word s ∷ word w ∷ comma ∷ t ∷ []) ≡ two_given m (narrow_value t) (kind_of t)
 unfolding bits_of braced
 register_label_gives s w m p (word v) is = rw (p.value) refl
 register_label_gives s w m p (number n) is = rw (p.value) refl
 register_label_gives s w m p (mark c) is = absurd is
 
 pub reads_register_label : (s w : List ℕ) (m : ℕ) → is_mnemonic s ≡ true → Operand w m
-    → ReadsAt (word s ∷ word w ∷ comma ∷ []) (λ t. two_given m (value t) (kind_of t))
+    → ReadsAt (word s ∷ word w ∷ comma ∷ []) (λ t. two_given m (narrow_value t) (kind_of t))
 reads_register_label s w m mnemonic p = record {
   gives = register_label_gives s w m p;
   prints = is_printed_bare_at s _ mnemonic (short_word w p.is ▹ short_comma ▹ tt) refl refl (omega arith) refl;

@@ -16,7 +16,7 @@ use Rattle.hm_text_rows.proofs.Braces.{printed_braces, printed_list}
 use Rattle.hm_text_rows.proofs.Printed.{IsPrinted, without_suffix}
 use Rattle.hm_text16_codes.specs.declared.operands.Operands.{Operands}
 use Rattle.hm_text16_codes.specs.Asked.{operands_of}
-use Rattle.hm_text16_codes.specs.Operands.{read_operands}
+use Rattle.hm_text16_codes.specs.Operands.{read_narrow_operands}
 use Rattle.hm_text_rows.specs.Operands.{bits_of, braced}
 use Rattle.hm_text_rows.specs.Shapes.{braces, r}
 use Rattle.hm_text_rows.proofs.Words.{below_holds, is_mnemonic}
@@ -37,8 +37,8 @@ list_code list.Stm o = list_base list.Stm + o.first ↑ 8 + o.registers
 list_code list.Ldm o = list_base list.Ldm + o.first ↑ 8 + o.registers
 
 pub record ListRow (name : ListName) (ts : List Tok) (c : ℕ) : Type 0 where
-  pub code : list_code name (read_operands ts) ≡ c
-  pub some : 0 < (read_operands ts).registers
+  pub code : list_code name (read_narrow_operands ts) ≡ c
+  pub some : 0 < (read_narrow_operands ts).registers
   pub prints : IsPrinted ts
 
 push_field : (x m : ℕ) → x < 2 → m < 256 → ((m + x ↑ 14) / 2 ^ 14 % 2 ≡ x) × ((m + x ↑ 14) % 256 ≡ m)
@@ -57,7 +57,7 @@ printed_written s n regs mnemonic hn b = without_suffix s _ (printed_list s [] 1
 printed_read : (s : List ℕ) (n regs : ℕ) → is_mnemonic s ≡ true → n < 8 → Braces regs → IsPrinted (word s ∷ r n ∷ comma ∷ braces regs)
 printed_read s n regs mnemonic hn b = without_suffix s _ (printed_list s [] 0 n regs mnemonic refl (omega arith) (omega (arith, hn)) b.few)
 
-bare_bits : (s : List ℕ) (m : ℕ) → Braces m → (read_operands (word s ∷ braces m)).registers ≡ m
+bare_bits : (s : List ℕ) (m : ℕ) → Braces m → (read_narrow_operands (word s ∷ braces m)).registers ≡ m
 unfolding braced
 bare_bits s m b = b.bits
 

@@ -12,7 +12,7 @@ use Rattle.hm_isa.specs.declared.widths.NarrowRow.TheVariants as narrow
 use Rattle.hm_isa.specs.Letters.{access_size, base_register, plain_access, shift_amount}
 use Rattle.hm_text_rows.proofs.Branches.{mnemonic_branch}
 use Rattle.hm_text_rows.proofs.Words.{below_holds}
-use Rattle.hm_text16_codes.specs.Operands.{word_value}
+use Rattle.hm_text16_codes.specs.Operands.{narrow_word_value}
 use Rattle.hm_text16_codes.proofs.Asked.{RowLaw, label_row, plain_row}
 use Rattle.hm_text16_codes.proofs.Forms.{reads_by_number, reads_by_register, reads_constant, reads_label, reads_none, reads_one, reads_one_constant}
 use Rattle.hm_text16_codes.proofs.Forms.{reads_register_label, reads_three, reads_two, reads_two_constant}
@@ -38,7 +38,7 @@ base_below : (name : BaseName) → base_register name < 16
 base_below name = grind arith
 
 the_i : Operand (codes "i") 0
-unfolding word_value
+unfolding narrow_word_value
 the_i = record { value = refl; is = refl }
 
 low : (n : ℕ) → n < 8 → n < 16

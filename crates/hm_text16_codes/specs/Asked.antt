@@ -10,7 +10,7 @@ use Rattle.hm_text_rows.specs.Operands.{first_word}
 use Rattle.hm_text16_codes.specs.declared.operands.Kind.{Kind}
 use Rattle.hm_text16_codes.specs.declared.operands.Kind.TheVariants as kinds
 use Rattle.hm_text16_codes.specs.declared.operands.Operands.{Operands}
-use Rattle.hm_text16_codes.specs.Operands.{kind_of, read_operands, value}
+use Rattle.hm_text16_codes.specs.Operands.{kind_of, read_narrow_operands, narrow_value}
 use Rattle.hm_text16_rows.specs.Rows.{list_tokens, tokens_of}
 use Rattle.hm_text16_rows.specs.Targets.{target}
 
@@ -52,17 +52,17 @@ operands_of (narrow.S10 i) t = two_given 13 (4 * i.i.value) kinds.Number
 operands_of (narrow.S11 i) t = two_given i.d.value i.m.value kinds.Word
 operands_of (narrow.S12 i) t = two_given i.d.value i.m.value kinds.Word
 operands_of (narrow.S13 i) t = one_given 0
-operands_of (narrow.S14 i) t = two_given i.t.value (value t) (kind_of t)
+operands_of (narrow.S14 i) t = two_given i.t.value (narrow_value t) (kind_of t)
 operands_of (narrow.S15 i) t = three_given i.t.value i.n.value i.m.value kinds.Word
 operands_of (narrow.S16 i) t = three_given i.t.value i.n.value (access_size (plain_access i.name) * i.i.value) kinds.Number
 operands_of (narrow.S17 i) t = three_given i.t.value 13 (4 * i.i.value) kinds.Number
 operands_of (narrow.S18 i) t = one_given i.i.value
 operands_of (narrow.S19 i) t = one_given 0
-operands_of (narrow.S20 i) t = read_operands (list_tokens i.name i.x.value i.n.value i.list.value)
+operands_of (narrow.S20 i) t = read_narrow_operands (list_tokens i.name i.x.value i.n.value i.list.value)
 operands_of (narrow.S21 i) t = one_given i.c.value
 operands_of (narrow.S23 i) t = one_given i.m.value
-operands_of (narrow.S24 i) t = two_given i.n.value (value t) (kind_of t)
-operands_of (narrow.S25 i) t = one_given (value t)
+operands_of (narrow.S24 i) t = two_given i.n.value (narrow_value t) (kind_of t)
+operands_of (narrow.S25 i) t = one_given (narrow_value t)
 
 -- a mnemonic and operands are those of a row, where t is the token of its label
 abbrev pub Asks : NarrowRow → Tok → List ℕ → Operands → Type 0

@@ -19,7 +19,7 @@ use crate::names::{
     byte_name, even_mask, hint_name, jump_name, logic_name, masking_name, plain_name, shift_name,
     stack_sum_name, sum_name, swap_name, word_name, zero_name,
 };
-use crate::operands::{Kind, Operands, read_operands};
+use crate::operands::{Kind, Operands, read_narrow_operands};
 use hm_enc16::{
     base_of_access, base_of_address, base_of_byte, base_of_extend, base_of_hint, base_of_jump,
     base_of_list, base_of_logic, base_of_masking, base_of_plain, base_of_shift, base_of_stack_sum,
@@ -303,5 +303,5 @@ fn code_of(mnemonic: &[u8], o: &Operands, pc: u32, a: u32) -> Option<u64>
 pub fn code_in(tokens: &[Token<'_>], pc: u32, a: u32) -> Option<u64>
     ensures code { IsCodeIn (map tok tokens.now) pc a result }
 {
-    code_of(first_word(tokens), &read_operands(tokens), pc, a)
+    code_of(first_word(tokens), &read_narrow_operands(tokens), pc, a)
 }

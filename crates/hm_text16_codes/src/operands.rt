@@ -1,7 +1,7 @@
 //! What a text gives numbers for, read without a refusal, since the row that is found is asked for its text.
 
 ghost use Rattle.std.specs.Prelude.{◌≡◌, map};
-ghost use Rattle.hm_text16_codes.specs.Operands.{kind_of, read_operands, value, word_value};
+ghost use Rattle.hm_text16_codes.specs.Operands.{kind_of, read_narrow_operands, narrow_value, narrow_word_value};
 ghost use Rattle.hm_tokens.specs.Tokens.{tok};
 
 use hm_text_rows::{braced_bits, operand, value_by};
@@ -29,9 +29,9 @@ pub struct Operands {
 }
 
 /// The number that a word stands for: a register's or a condition's.
-#[tactic(auto, unfolding(crate::specs::Operands::word_value))]
-fn word_value(name: &[u8]) -> u32
-    ensures { result ≡ word_value name.now }
+#[tactic(auto, unfolding(crate::specs::Operands::narrow_word_value))]
+fn narrow_word_value(name: &[u8]) -> u32
+    ensures { result ≡ narrow_word_value name.now }
 {
     if let Some(n) = read_register(name) {
         return n;
@@ -46,10 +46,10 @@ fn word_value(name: &[u8]) -> u32
 }
 
 /// The number that a token stands for.
-fn value(token: Token<'_>) -> u32
-    ensures { result ≡ value (tok token.entry) }
+fn narrow_value(token: Token<'_>) -> u32
+    ensures { result ≡ narrow_value (tok token.entry) }
 {
-    value_by(word_value, token)
+    value_by(narrow_word_value, token)
 }
 
 /// What a token is as an operand.
@@ -64,13 +64,13 @@ fn kind_of(token: Token<'_>) -> Kind
 }
 
 /// What stands behind the mnemonic of tokens, which is their first word.
-pub fn read_operands(tokens: &[Token<'_>]) -> Operands
-    ensures { result ≡ read_operands (map tok tokens.now) }
+pub fn read_narrow_operands(tokens: &[Token<'_>]) -> Operands
+    ensures { result ≡ read_narrow_operands (map tok tokens.now) }
 {
     Operands {
-        first: value(operand(tokens, 1)),
-        second: value(operand(tokens, 2)),
-        third: value(operand(tokens, 3)),
+        first: narrow_value(operand(tokens, 1)),
+        second: narrow_value(operand(tokens, 2)),
+        third: narrow_value(operand(tokens, 3)),
         second_kind: kind_of(operand(tokens, 2)),
         third_kind: kind_of(operand(tokens, 3)),
         registers: braced_bits(tokens),

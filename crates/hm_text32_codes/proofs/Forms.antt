@@ -11,7 +11,7 @@ use Rattle.hm_tokens.specs.Names.{condition_name, register_name, vector_name}
 use Rattle.hm_tokens.specs.Tokens.{Tok, word, comma, point}
 use Rattle.hm_text32_codes.specs.declared.operands.Operands.{Operands}
 use Rattle.hm_text32_codes.specs.Asked.{given_all}
-use Rattle.hm_text32_codes.specs.Operands.{operands_in, read_operands, word_value}
+use Rattle.hm_text32_codes.specs.Operands.{operands_in, read_wide_operands, wide_word_value}
 use Rattle.hm_text_rows.specs.Operands.{bits_of, braced, first_word, is_vector_name, size_of}
 use Rattle.hm_text32_rows.specs.Mnemonics.{shift_mnemonic, wide}
 use Rattle.hm_text_rows.specs.Mnemonics.{element_suffix}
@@ -73,7 +73,7 @@ suffix_element z lt = record {
 -- WORDS
 -- a word that is an operand: its number, and whether it is a vector register
 pub record Operand (w : List ℕ) (n : ℕ) (b : Bool) : Type 0 where
-  pub value : word_value w ≡ n
+  pub value : wide_word_value w ≡ n
   pub vector : is_vector_name w ≡ b
   pub is : is_name w ≡ true
 
@@ -81,17 +81,17 @@ pub short : {w : List ℕ} {n : ℕ} {b : Bool} → Operand w n b → IsShort (w
 short {w} o = short_word w o.is
 
 pub a_register : (n : ℕ) → n < 16 → Operand (register_name n) n false
-unfolding word_value is_vector_name
+unfolding wide_word_value is_vector_name
 a_register n lt = record {
-  value = below_is (λ k. word_value (register_name k)) (λ k. k) 16 n refl lt;
+  value = below_is (λ k. wide_word_value (register_name k)) (λ k. k) 16 n refl lt;
   vector = agree_below_at (λ k. is_vector_name (register_name k)) (λ k. false) 16 n refl lt;
   is = word_r n lt;
 }
 
 pub a_vector : (d : ℕ) → d < 8 → Operand (vector_name d) d true
-unfolding word_value is_vector_name
+unfolding wide_word_value is_vector_name
 a_vector d lt = record {
-  value = below_is (λ k. word_value (vector_name k)) (λ k. k) 8 d refl lt;
+  value = below_is (λ k. wide_word_value (vector_name k)) (λ k. k) 8 d refl lt;
   vector = below_holds (λ k. is_vector_name (vector_name k)) 8 d refl lt;
   is = word_q d lt;
 }
@@ -100,25 +100,25 @@ abbrev pub zero_name : ℕ → List ℕ
 zero_name n = cond (nat_eq n 15) (codes "zr") (register_name n)
 
 pub a_register_or_zero : (n : ℕ) → n < 16 → Operand (zero_name n) n false
-unfolding word_value is_vector_name
+unfolding wide_word_value is_vector_name
 a_register_or_zero n lt = record {
-  value = below_is (λ j. word_value (zero_name j)) (λ j. j) 16 n refl lt;
+  value = below_is (λ j. wide_word_value (zero_name j)) (λ j. j) 16 n refl lt;
   vector = agree_below_at (λ j. is_vector_name (zero_name j)) (λ j. false) 16 n refl lt;
   is = below_holds (λ j. is_name (zero_name j)) 16 n refl lt;
 }
 
 pub a_condition : (c : ℕ) → c < 14 → Operand (condition_name c) c false
-unfolding word_value is_vector_name
+unfolding wide_word_value is_vector_name
 a_condition c lt = record {
-  value = below_is (λ j. word_value (condition_name j)) (λ j. j) 14 c refl lt;
+  value = below_is (λ j. wide_word_value (condition_name j)) (λ j. j) 14 c refl lt;
   vector = agree_below_at (λ j. is_vector_name (condition_name j)) (λ j. false) 14 c refl lt;
   is = below_holds (λ j. is_name (condition_name j)) 14 c refl lt;
 }
 
 pub a_kind : (ty : ℕ) → ty < 4 → Operand (shift_mnemonic ty) ty false
-unfolding word_value is_vector_name
+unfolding wide_word_value is_vector_name
 a_kind ty lt = record {
-  value = below_is (λ j. word_value (shift_mnemonic j)) (λ j. j) 4 ty refl lt;
+  value = below_is (λ j. wide_word_value (shift_mnemonic j)) (λ j. j) 4 ty refl lt;
   vector = agree_below_at (λ j. is_vector_name (shift_mnemonic j)) (λ j. false) 4 ty refl lt;
   is = below_holds (λ j. is_name (shift_mnemonic j)) 4 ty refl lt;
 }
@@ -130,16 +130,16 @@ the_mnemonic s f ts mnemonic suffix = ap (λ (p : List ℕ × List ℕ). p.0) (c
 
 -- tokens behind a mnemonic and a suffix: where they are short, and what they give
 pub reads_as : (s f : List ℕ) (ts : List Tok) (o : Operands) → is_mnemonic s ≡ true → is_suffix f ≡ true → AreShort ts → are_apart ts ≡ true → room ts ≤ 78
-    → normal (word (s ++ f) ∷ ts) ≡ word (s ++ f) ∷ ts → read_operands f ts ≡ o → Reads (word (s ++ f) ∷ ts) s o
+    → normal (word (s ++ f) ∷ ts) ≡ word (s ++ f) ∷ ts → read_wide_operands f ts ≡ o → Reads (word (s ++ f) ∷ ts) s o
 reads_as s f ts o mnemonic suffix short apart le same gives = record {
   mnemonic = the_mnemonic s f ts mnemonic suffix;
-  gives = ap (λ (p : List ℕ × List ℕ). read_operands p.1 ts) (cut s f mnemonic suffix) ∙ gives;
+  gives = ap (λ (p : List ℕ × List ℕ). read_wide_operands p.1 ts) (cut s f mnemonic suffix) ∙ gives;
   prints = is_printed_as s f ts mnemonic suffix short apart le same;
 }
 
 -- and have no minus sign
 pub reads : (s f : List ℕ) (ts : List Tok) (o : Operands) → is_mnemonic s ≡ true → is_suffix f ≡ true → AreShort ts → are_apart ts ≡ true → room ts ≤ 78
-    → has_no_ranges ts ≡ true → read_operands f ts ≡ o → Reads (word (s ++ f) ∷ ts) s o
+    → has_no_ranges ts ≡ true → read_wide_operands f ts ≡ o → Reads (word (s ++ f) ∷ ts) s o
 reads s f ts o mnemonic suffix short apart le none gives =
     reads_as s f ts o mnemonic suffix short apart le (normal_same (word (s ++ f) ∷ ts) none) gives
 

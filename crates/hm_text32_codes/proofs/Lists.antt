@@ -15,7 +15,7 @@ use Rattle.hm_text32_rows.specs.Mnemonics.{wide_list_mnemonic, wide_list_suffix}
 use Rattle.hm_text32_rows.proofs.Lists.{few_listed}
 use Rattle.hm_text32_codes.specs.declared.operands.Operands.{Operands}
 use Rattle.hm_text32_codes.specs.Asked.{operands_of}
-use Rattle.hm_text32_codes.specs.Operands.{read_operands, second_bang, value}
+use Rattle.hm_text32_codes.specs.Operands.{read_wide_operands, second_bang, wide_value}
 use Rattle.hm_text32_codes.proofs.Asked.{RowLaw}
 use Rattle.hm_text32_codes.proofs.Forms.{a_register, the_mnemonic}
 
@@ -32,7 +32,7 @@ bang_of (suc zero) n us lt = refl
 bang_of (suc (suc w)) n us lt = absurd (omega arith)
 
 sum_of : (base w n list : ℕ) (us : List Tok) → w < 2 → n < 16 → bits_of (braced us) ≡ list
-    → base + second_bang (behind_base w n us) ↑ 21 + value (operand 0 (behind_base w n us)) ↑ 16 + bits_of (braced (behind_base w n us))
+    → base + second_bang (behind_base w n us) ↑ 21 + wide_value (operand 0 (behind_base w n us)) ↑ 16 + bits_of (braced (behind_base w n us))
     ≡ base + w ↑ 21 + n ↑ 16 + list
 sum_of base w n list us hw hn bits =
     let bang = bang_of w n us hw in
@@ -43,7 +43,7 @@ abbrev pub list_code : ℕ → Operands → ℕ
 list_code base o = base + o.bang ↑ 21 + o.first ↑ 16 + o.registers
 
 -- the tokens of a row, whatever its suffix is
-list_sum : (i : T14) (f : List ℕ) → list_code (wide_list_base i.name) (read_operands f (base_and_list i.w.value i.n.value i.list.value)) ≡ code_t14 i
+list_sum : (i : T14) (f : List ℕ) → list_code (wide_list_base i.name) (read_wide_operands f (base_and_list i.w.value i.n.value i.list.value)) ≡ code_t14 i
 list_sum i f = sum_of (wide_list_base i.name) i.w.value i.n.value i.list.value (braces i.list.value) i.w.in_range i.n.in_range
     (braces_bits i.list.value i.list.in_range)
 

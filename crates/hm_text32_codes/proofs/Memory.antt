@@ -20,7 +20,7 @@ use Rattle.hm_text_rows.proofs.Printed.{short_bang, short_close, short_comma, sh
 use Rattle.hm_text_rows.proofs.Printed.{short_word}
 use Rattle.hm_text32_rows.specs.Mnemonics.{wide}
 use Rattle.hm_text32_codes.specs.Asked.{placed}
-use Rattle.hm_text32_codes.specs.Operands.{word_value}
+use Rattle.hm_text32_codes.specs.Operands.{wide_word_value}
 use Rattle.hm_text32_codes.proofs.Asked.{RowReads}
 use Rattle.hm_text32_codes.proofs.Inverses.{indexed_some, pair_some}
 use Rattle.hm_text32_codes.proofs.Forms.{Operand, Reads, Suffix, a_register, bare, min_small, no_suffix, reads_as, short, suffix_wide}
@@ -65,7 +65,7 @@ reads_indexed s f t n p u (suc (suc w)) k mnemonic g x y hp hu hw some hk = absu
 
 reads_scaled : (s f : List ℕ) (t n m k : ℕ) → is_mnemonic s ≡ true → Suffix f 0 → Register t → Register n → Register m → k < 2 ^ 32
     → Reads (word (s ++ f) ∷ r t ∷ comma ∷ scaled n m k) s (placed false 1 1 0 t n m 0 k)
-unfolding singles word_value bits_of braced
+unfolding singles wide_word_value bits_of braced
 reads_scaled s f t n m k mnemonic g x y z hk =
     reads_as s f _ _ mnemonic g.is
     (short x ▹ short_comma ▹ short_open ▹ short y ▹ short_comma ▹ short z ▹ short_comma ▹ short_word (codes "lsl") refl ▹ short_hash ▹ short_number k hk

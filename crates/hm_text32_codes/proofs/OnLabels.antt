@@ -36,15 +36,15 @@ use Rattle.hm_text32_rows.specs.Mnemonics.{wide, wide_branch_mnemonic, wide_bran
 use Rattle.hm_text32_rows.specs.Rows.{loop_end_tokens}
 use Rattle.hm_text32_codes.specs.declared.operands.Operands.{Operands}
 use Rattle.hm_text32_codes.specs.Asked.{given_sized, label_given, loop_end_mnemonic, loop_end_operands}
-use Rattle.hm_text32_codes.specs.Operands.{operands_in, read_operands, value, word_value}
+use Rattle.hm_text32_codes.specs.Operands.{operands_in, read_wide_operands, wide_value, wide_word_value}
 use Rattle.hm_text32_codes.proofs.Asked.{LabelReads, ReadsAt}
 use Rattle.hm_text32_codes.proofs.Forms.{Suffix, a_register, no_suffix, short, suffix_element, suffix_wide, the_mnemonic}
 
 -- TEXTS
 -- tokens behind a mnemonic and a suffix and before a label, which is a word or a number: where they are short, and what they give
 reads_at : (s f : List ℕ) (ts : List Tok) (o : Tok → Operands) → is_mnemonic s ≡ true → is_suffix f ≡ true → AreShort ts → are_apart ts ≡ true
-    → ends_in_mark ts ≡ true → room ts ≤ 68 → has_no_ranges ts ≡ true → ((v : List ℕ) → read_operands f (ts ++ word v ∷ []) ≡ o (word v))
-    → ((n : ℕ) → read_operands f (ts ++ number n ∷ []) ≡ o (number n)) → ReadsAt (word (s ++ f) ∷ ts) s o
+    → ends_in_mark ts ≡ true → room ts ≤ 68 → has_no_ranges ts ≡ true → ((v : List ℕ) → read_wide_operands f (ts ++ word v ∷ []) ≡ o (word v))
+    → ((n : ℕ) → read_wide_operands f (ts ++ number n ∷ []) ≡ o (number n)) → ReadsAt (word (s ++ f) ∷ ts) s o
 reads_at s f ts o mnemonic suffix short apart ends le none by_word by_number = record {
   mnemonic = λ t. the_mnemonic s f (ts ++ t ∷ []) mnemonic suffix;
   gives = given_by;
@@ -52,8 +52,8 @@ reads_at s f ts o mnemonic suffix short apart ends le none by_word by_number = r
 }
   where
     given_by : (t : Tok) → IsLabel t → operands_in (word (s ++ f) ∷ (ts ++ t ∷ [])) ≡ o t
-    given_by (word v) is = ap (λ (p : List ℕ × List ℕ). read_operands p.1 (ts ++ word v ∷ [])) (cut s f mnemonic suffix) ∙ by_word v
-    given_by (number n) is = ap (λ (p : List ℕ × List ℕ). read_operands p.1 (ts ++ number n ∷ [])) (cut s f mnemonic suffix) ∙ by_number n
+    given_by (word v) is = ap (λ (p : List ℕ × List ℕ). read_wide_operands p.1 (ts ++ word v ∷ [])) (cut s f mnemonic suffix) ∙ by_word v
+    given_by (number n) is = ap (λ (p : List ℕ × List ℕ). read_wide_operands p.1 (ts ++ number n ∷ [])) (cut s f mnemonic suffix) ∙ by_number n
     given_by (mark c) is = absurd is
 
 -- a label alone
@@ -66,14 +66,14 @@ lr_short : IsShort (r 14)
 lr_short = short_word (register_name 14) refl
 
 reads_lr : (s : List ℕ) → is_mnemonic s ≡ true
-    → ReadsAt (word (s ++ []) ∷ r 14 ∷ comma ∷ []) s (λ t. given_sized 0 (is_number t) false 14 (value t) 0 0 0)
-unfolding bits_of braced word_value is_vector_name size_of
+    → ReadsAt (word (s ++ []) ∷ r 14 ∷ comma ∷ []) s (λ t. given_sized 0 (is_number t) false 14 (wide_value t) 0 0 0)
+unfolding bits_of braced wide_word_value is_vector_name size_of
 reads_lr s mnemonic =
     reads_at s [] _ _ mnemonic refl (lr_short ▹ short_comma ▹ tt) refl refl (omega arith) refl (λ v. refl) (λ n. refl)
 
 -- lr, another register and a label
 reads_start : (s f : List ℕ) (z n : ℕ) → is_mnemonic s ≡ true → Suffix f z → n < 16
-    → ReadsAt (word (s ++ f) ∷ r 14 ∷ comma ∷ r n ∷ comma ∷ []) s (λ t. given_sized z false (is_number t) 14 n (value t) 0 0)
+    → ReadsAt (word (s ++ f) ∷ r 14 ∷ comma ∷ r n ∷ comma ∷ []) s (λ t. given_sized z false (is_number t) 14 n (wide_value t) 0 0)
 unfolding bits_of braced
 reads_start s f z n mnemonic g hn =
     let p = a_register 14 (omega arith) in

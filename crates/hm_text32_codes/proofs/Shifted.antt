@@ -16,7 +16,7 @@ use Rattle.hm_text_rows.proofs.Words.{is_mnemonic}
 use Rattle.hm_text32_codes.specs.declared.operands.Operands.{Operands}
 use Rattle.hm_text32_codes.specs.Asked.{Letters, given, kind_of, kind_operands, letters, letters_t1, letters_t2, number_read, single_kind}
 use Rattle.hm_text32_codes.specs.Names.{kind_mnemonic}
-use Rattle.hm_text32_codes.specs.Operands.{word_value}
+use Rattle.hm_text32_codes.specs.Operands.{wide_word_value}
 use Rattle.hm_text32_rows.specs.Rows.{and_shifted, is_unshifted, row_tokens, single_tokens}
 use Rattle.hm_text32_rows.specs.Mnemonics.{carry_mnemonic, data_mnemonic, move_mnemonic, shift_mnemonic, test_mnemonic, turn_mnemonic, wide}
 use Rattle.hm_text32_codes.proofs.DataForms.{said_t1, said_t2}
@@ -36,7 +36,7 @@ number_small : (ty k : ℕ) → k < 32 → shift_number ty k < 2 ^ 32
 number_small ty k lt = grind (arith, nat_tests)
 
 rrx : Operand (codes "rrx") 3 false
-unfolding word_value is_vector_name
+unfolding wide_word_value is_vector_name
 rrx = record { value = refl; vector = refl; is = refl }
 
 two_shifted : (s f w x : List ℕ) (b c : Bool) (z m n ty k : ℕ) → is_mnemonic s ≡ true → Suffix f z → Operand w m b → Operand x n c → ty < 4 → k < 32

@@ -34,7 +34,7 @@ use Rattle.hm_text32_rows.specs.Mnemonics.{barrier_mnemonic, read_name, table_mn
 use Rattle.hm_text32_rows.specs.Rows.{barrier_tokens, lane_tokens, system_tokens, table_tokens}
 use Rattle.hm_text32_codes.specs.Asked.{given, lane_operands, none_given, system_mnemonic, system_operands, table_operands}
 use Rattle.hm_text32_codes.specs.Asked.{written_number}
-use Rattle.hm_text32_codes.specs.Operands.{special_number, word_value}
+use Rattle.hm_text32_codes.specs.Operands.{special_number, wide_word_value}
 use Rattle.hm_text32_codes.proofs.Asked.{RowReads}
 use Rattle.hm_text32_codes.proofs.Inverses.{some_doubles}
 use Rattle.hm_text32_codes.proofs.Forms.{Operand, Reads, a_register, a_vector, bare, min_small, no_suffix}
@@ -43,9 +43,9 @@ use Rattle.hm_text32_codes.proofs.Forms.{reads_none, reads_two, suffix_element, 
 
 -- T15
 a_double : (n : ℕ) → n < 16 → Operand (double_name n) n false
-unfolding word_value is_vector_name
+unfolding wide_word_value is_vector_name
 a_double n lt = record {
-  value = below_is (λ k. word_value (double_name k)) (λ k. k) 16 n refl lt;
+  value = below_is (λ k. wide_word_value (double_name k)) (λ k. k) 16 n refl lt;
   vector = agree_below_at (λ k. is_vector_name (double_name k)) (λ k. false) 16 n refl lt;
   is = below_holds (λ k. is_name (double_name k)) 16 n refl lt;
 }
@@ -75,7 +75,7 @@ row_t15 i =
 
 -- T17
 lsl : Operand (codes "lsl") 0 false
-unfolding word_value is_vector_name
+unfolding wide_word_value is_vector_name
 lsl = record { value = refl; vector = refl; is = refl }
 
 table_reads : (name : TableName) (n m : ℕ) → n < 16 → m < 16 → Reads (table_tokens name n m) (table_mnemonic name) (table_operands name n m)
@@ -98,11 +98,11 @@ row_t17 i = table_reads i.name i.n.value i.m.value i.n.in_range i.m.in_range
 
 -- T18
 a_read : (name : ReadName) → Operand (read_name name) (special_number name) false
-unfolding word_value is_vector_name
+unfolding wide_word_value is_vector_name
 a_read name = grind arith
 
 a_written : (name : WrittenName) → Operand (written_name name) (written_number name) false
-unfolding word_value is_vector_name
+unfolding wide_word_value is_vector_name
 a_written name = grind arith
 
 pub row_read : (i : Mrs) → RowReads (rows.T18 (t18.Read i))
@@ -130,23 +130,23 @@ abbrev flag_name : ℕ → List ℕ
 flag_name t = cond (nat_eq t 15) (codes "apsr_nzcv") (register_name t)
 
 a_flag : (t : ℕ) → t < 16 → Operand (flag_name t) t false
-unfolding word_value is_vector_name
+unfolding wide_word_value is_vector_name
 a_flag t lt = record {
-  value = below_is (λ j. word_value (flag_name j)) (λ j. j) 16 t refl lt;
+  value = below_is (λ j. wide_word_value (flag_name j)) (λ j. j) 16 t refl lt;
   vector = agree_below_at (λ j. is_vector_name (flag_name j)) (λ j. false) 16 t refl lt;
   is = below_holds (λ j. is_name (flag_name j)) 16 t refl lt;
 }
 
 fpscr : Operand (codes "fpscr") 1 false
-unfolding word_value is_vector_name
+unfolding wide_word_value is_vector_name
 fpscr = record { value = refl; vector = refl; is = refl }
 
 vpr : Operand (codes "vpr") 12 false
-unfolding word_value is_vector_name
+unfolding wide_word_value is_vector_name
 vpr = record { value = refl; vector = refl; is = refl }
 
 p0 : Operand (codes "p0") 13 false
-unfolding word_value is_vector_name
+unfolding wide_word_value is_vector_name
 p0 = record { value = refl; vector = refl; is = refl }
 
 system_reads : (name : SystemMoveName) (t : ℕ) → t < 16 → Reads (system_tokens name t) (system_mnemonic name) (system_operands name t)

@@ -42,7 +42,7 @@ use Rattle.hm_text32_codes.specs.declared.names.DataKind.{DataKind}
 use Rattle.hm_text32_codes.specs.declared.names.DataKind.TheVariants as kind
 use Rattle.hm_text32_codes.specs.declared.operands.Operands.{Operands}
 use Rattle.hm_text32_codes.specs.Names.{kind_mnemonic}
-use Rattle.hm_text32_codes.specs.Operands.{operands_in, special_number, value}
+use Rattle.hm_text32_codes.specs.Operands.{operands_in, special_number, wide_value}
 
 -- MNEMONICS
 -- T1 and T2: the letters of a row, what stands last in its text, the constant or the register m, and how that is shifted
@@ -194,7 +194,7 @@ none_given = given_all true false 0 false false false 0 0 0 0 0 1 1 0
 
 -- a label alone
 abbrev pub label_given : Tok → Operands
-label_given t = given_all false true 0 (is_vector t) false false (value t) 0 0 0 0 1 1 0
+label_given t = given_all false true 0 (is_vector t) false false (wide_value t) 0 0 0 0 1 1 0
 
 -- an address, with what P, U and W say of its offset
 abbrev pub placed : Bool → ℕ → ℕ → ℕ → ℕ → ℕ → ℕ → ℕ → ℕ → Operands
@@ -249,16 +249,16 @@ lane_operands lane.FromLane d x t = given_sized 2 false true t d x 0 0
 
 -- T23: the operands of LE and LETP (DDI0553, "LE, LETP")
 abbrev pub loop_end_operands : LoopEndName → Tok → Operands
-loop_end_operands loop_end.LeLr t = given_sized 0 (is_number t) false 14 (value t) 0 0 0
-loop_end_operands loop_end.Letp t = given_sized 0 (is_number t) false 14 (value t) 0 0 0
+loop_end_operands loop_end.LeLr t = given_sized 0 (is_number t) false 14 (wide_value t) 0 0 0
+loop_end_operands loop_end.Letp t = given_sized 0 (is_number t) false 14 (wide_value t) 0 0 0
 loop_end_operands loop_end.Le t = label_given t
 
 -- T23: the operands of DLS, WLS, DLSTP, WLSTP, LE, LETP and LCTP (DDI0553, "WLS, DLS, WLSTP, DLSTP", "LE, LETP" and "LCTP")
 abbrev pub loop_operands : T23 → Tok → Operands
 loop_operands (t23.Dls i) t = given 14 i.n.value 0 0 0
-loop_operands (t23.Wls i) t = given_sized 0 false (is_number t) 14 i.n.value (value t) 0 0
+loop_operands (t23.Wls i) t = given_sized 0 false (is_number t) 14 i.n.value (wide_value t) 0 0
 loop_operands (t23.Dlstp i) t = given_sized i.z.value false false 14 i.n.value 0 0 0
-loop_operands (t23.Wlstp i) t = given_sized i.z.value false (is_number t) 14 i.n.value (value t) 0 0
+loop_operands (t23.Wlstp i) t = given_sized i.z.value false (is_number t) 14 i.n.value (wide_value t) 0 0
 loop_operands (t23.End i) t = loop_end_operands i.name t
 loop_operands t23.Lctp t = none_given
 

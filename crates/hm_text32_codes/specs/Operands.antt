@@ -36,14 +36,14 @@ other_value w =
     else 0
 
 -- the number that a word stands for: a register's, a vector's, a condition's, a half of a vector's, a shift's, a special register's or another's
-unfoldable pub word_value : List ℕ → ℕ
-word_value w =
+unfoldable pub wide_word_value : List ℕ → ℕ
+wide_word_value w =
     unwrap_or (register_in w)
     (unwrap_or (vector_in w) (unwrap_or (condition_in w) (unwrap_or (double_in w) (unwrap_or (shift_in w) (unwrap_or (special_in w) (other_value w))))))
 
 -- the number that a token stands for
-abbrev pub value : Tok → ℕ
-value = value_by word_value
+abbrev pub wide_value : Tok → ℕ
+wide_value = value_by wide_word_value
 
 -- 1 where `!` stands behind the first token
 abbrev pub second_bang : List Tok → ℕ
@@ -51,19 +51,19 @@ second_bang [] = 0
 second_bang (t ∷ ts) = if is_the_mark marks.Bang (first_of ts) then 1 else 0
 
 -- what stands behind a mnemonic, as numbers: the element size, five operands, what they are, how an address is written, and the registers in braces
-abbrev pub read_operands : List ℕ → List Tok → Operands
-read_operands suffix ts = record {
+abbrev pub read_wide_operands : List ℕ → List Tok → Operands
+read_wide_operands suffix ts = record {
   is_bare = length ts == 0;
   is_single = length ts == 1;
   size = size_of suffix;
   is_vector = is_vector (operand 0 ts);
   second_is_number = is_number (operand 1 ts);
   third_is_number = is_number (operand 2 ts);
-  first = value (operand 0 ts);
-  second = value (operand 1 ts);
-  third = value (operand 2 ts);
-  fourth = value (operand 3 ts);
-  fifth = value (operand 4 ts);
+  first = wide_value (operand 0 ts);
+  second = wide_value (operand 1 ts);
+  third = wide_value (operand 2 ts);
+  fourth = wide_value (operand 3 ts);
+  fifth = wide_value (operand 4 ts);
   added = added ts;
   before = before ts;
   back = back_in ts;
@@ -78,4 +78,4 @@ behind_first (t ∷ ts) = ts
 
 -- the operands of tokens
 abbrev pub operands_in : List Tok → Operands
-operands_in ts = read_operands (span point (first_word ts)).1 (behind_first ts)
+operands_in ts = read_wide_operands (span point (first_word ts)).1 (behind_first ts)

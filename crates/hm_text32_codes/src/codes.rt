@@ -8,7 +8,7 @@ ghost use Rattle.hm_tokens.specs.Tokens.{tok};
 use crate::data_codes::kind_code;
 use crate::jumps::code_at_label;
 use crate::names::data_kind;
-use crate::operands::{Operands, read_operands};
+use crate::operands::{Operands, read_wide_operands};
 use hm_text_base::span;
 use hm_text_rows::first_word;
 use hm_tokens::Token;
@@ -40,6 +40,6 @@ pub fn code_in(tokens: &[Token<'_>], pc: u32, a: u32) -> Option<u64>
     ensures other { IsOtherCodeIn (map tok tokens.now) result }
 {
     let (mnemonic, suffix) = span(b'.', first_word(tokens));
-    let o = read_operands(suffix, behind_first(tokens));
+    let o = read_wide_operands(suffix, behind_first(tokens));
     code_of(mnemonic, &o, pc, a)
 }

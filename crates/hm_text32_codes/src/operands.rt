@@ -1,7 +1,7 @@
 //! What a text gives numbers for, read without a refusal, since the row that is found is asked for its text.
 
 ghost use Rattle.std.specs.Prelude.{◌≡◌, map};
-ghost use Rattle.hm_text32_codes.specs.Operands.{other_value, read_operands, second_bang, shift_in, special_in, value, word_value};
+ghost use Rattle.hm_text32_codes.specs.Operands.{other_value, read_wide_operands, second_bang, shift_in, special_in, wide_value, wide_word_value};
 ghost use Rattle.hm_tokens.specs.Tokens.{tok};
 
 use hm_text_rows::{
@@ -81,9 +81,9 @@ fn other_value(name: &[u8]) -> u32
 }
 
 /// The number that a word stands for.
-#[tactic(auto, unfolding(crate::specs::Operands::word_value))]
-fn word_value(name: &[u8]) -> u32
-    ensures { result ≡ word_value name.now }
+#[tactic(auto, unfolding(crate::specs::Operands::wide_word_value))]
+fn wide_word_value(name: &[u8]) -> u32
+    ensures { result ≡ wide_word_value name.now }
 {
     if let Some(n) = read_register(name) {
         return n;
@@ -107,10 +107,10 @@ fn word_value(name: &[u8]) -> u32
 }
 
 /// The number that a token stands for.
-fn value(token: Token<'_>) -> u32
-    ensures { result ≡ value (tok token.entry) }
+fn wide_value(token: Token<'_>) -> u32
+    ensures { result ≡ wide_value (tok token.entry) }
 {
-    value_by(word_value, token)
+    value_by(wide_word_value, token)
 }
 
 /// 1 where `!` stands behind the first token.
@@ -130,8 +130,8 @@ fn second_bang(tokens: &[Token<'_>]) -> u32
 }
 
 /// What stands behind a mnemonic: its suffix, with the point, and the other tokens.
-pub fn read_operands(suffix: &[u8], tokens: &[Token<'_>]) -> Operands
-    ensures { result ≡ read_operands suffix.now (map tok tokens.now) }
+pub fn read_wide_operands(suffix: &[u8], tokens: &[Token<'_>]) -> Operands
+    ensures { result ≡ read_wide_operands suffix.now (map tok tokens.now) }
 {
     Operands {
         is_bare: tokens.is_empty(),
@@ -140,11 +140,11 @@ pub fn read_operands(suffix: &[u8], tokens: &[Token<'_>]) -> Operands
         is_vector: is_vector(operand(tokens, 0)),
         second_is_number: is_number(operand(tokens, 1)),
         third_is_number: is_number(operand(tokens, 2)),
-        first: value(operand(tokens, 0)),
-        second: value(operand(tokens, 1)),
-        third: value(operand(tokens, 2)),
-        fourth: value(operand(tokens, 3)),
-        fifth: value(operand(tokens, 4)),
+        first: wide_value(operand(tokens, 0)),
+        second: wide_value(operand(tokens, 1)),
+        third: wide_value(operand(tokens, 2)),
+        fourth: wide_value(operand(tokens, 3)),
+        fifth: wide_value(operand(tokens, 4)),
         added: added(tokens),
         before: before(tokens),
         back: back_in(tokens),

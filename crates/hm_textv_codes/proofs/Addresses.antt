@@ -7,7 +7,7 @@ use Rattle.hm_tokens.specs.Tokens.{Tok, word, close_brace, close_bracket, comma,
 use Rattle.hm_textv_codes.specs.declared.operands.Kind.{Kind}
 use Rattle.hm_textv_codes.specs.declared.operands.Kind.TheVariants as kinds
 use Rattle.hm_textv_codes.specs.Asked.{given_access}
-use Rattle.hm_textv_codes.specs.Operands.{word_value}
+use Rattle.hm_textv_codes.specs.Operands.{vector_word_value}
 use Rattle.hm_text_rows.specs.Operands.{is_vector_name}
 use Rattle.hm_text_rows.specs.Shapes.{back, indexed, offset, q, r}
 use Rattle.hm_text_rows.proofs.Words.{◌▹◌, cut, is_name, is_mnemonic}
@@ -56,7 +56,7 @@ reads_indexed {s = s} {f = f} {base = base} {d = d} {n = n} p a w mnemonic g b o
 }
 
 uxtw : Operand (codes "uxtw") 1 kinds.Word
-unfolding word_value is_vector_name
+unfolding vector_word_value is_vector_name
 uxtw = record { value = refl; is_kind = refl; is = refl }
 
 -- the scale of offsets, and the bracket behind it

@@ -5,7 +5,7 @@ use Rattle.hm_isa.specs.declared.fields.Below.{Below}
 use Rattle.hm_textv_codes.specs.declared.operands.Kind.TheVariants as kinds
 use Rattle.hm_textv_codes.specs.Asked.{constant_given, constant_number, given}
 use Rattle.hm_textv_codes.specs.Names.{constant_mnemonic}
-use Rattle.hm_textv_codes.specs.Operands.{word_value}
+use Rattle.hm_textv_codes.specs.Operands.{vector_word_value}
 use Rattle.hm_text_rows.specs.Operands.{is_vector_name}
 use Rattle.hm_text_rows.proofs.Words.{◌▹◌, at_below, is_mnemonic}
 use Rattle.hm_textv_rows.specs.Mnemonics.{constant_merge_mnemonic, constant_move_mnemonic}
@@ -14,11 +14,11 @@ use Rattle.hm_textv_codes.proofs.Endings.{Suffix, suffix_integer, suffix_whole}
 use Rattle.hm_textv_codes.proofs.Forms.{Operand, Reads, a_vector, reads_constant, reads_shifted}
 
 lsl : Operand (codes "lsl") 0 kinds.Word
-unfolding word_value is_vector_name
+unfolding vector_word_value is_vector_name
 lsl = record { value = refl; is_kind = refl; is = refl }
 
 msl : Operand (codes "msl") 1 kinds.Word
-unfolding word_value is_vector_name
+unfolding vector_word_value is_vector_name
 msl = record { value = refl; is_kind = refl; is = refl }
 
 -- one text of an immediate that is shifted

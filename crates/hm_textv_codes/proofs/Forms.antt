@@ -12,7 +12,7 @@ use Rattle.hm_textv_codes.specs.declared.operands.Kind.{Kind}
 use Rattle.hm_textv_codes.specs.declared.operands.Kind.TheVariants as kinds
 use Rattle.hm_textv_codes.specs.declared.operands.Operands.{Operands}
 use Rattle.hm_textv_codes.specs.Asked.{given, mnemonic_of, operands_of}
-use Rattle.hm_textv_codes.specs.Operands.{kind_by, read_operands, word_value}
+use Rattle.hm_textv_codes.specs.Operands.{kind_by, read_vector_operands, vector_word_value}
 use Rattle.hm_text_rows.specs.Operands.{first_word, is_vector_name}
 use Rattle.hm_text_rows.specs.Shapes.{and_constant, constant, four, three, two}
 use Rattle.hm_text_rows.proofs.Words.{◌▹◌, below_holds, below_is, cut, is_name, is_mnemonic}
@@ -23,7 +23,7 @@ use Rattle.hm_textv_codes.proofs.Endings.{Suffix}
 
 -- the mnemonic of tokens, which is their first word up to its point, and their operands
 abbrev pub read_text : List Tok → List ℕ × Operands
-read_text ts = ((span point (first_word ts)).0, read_operands (span point (first_word ts)).1 ts)
+read_text ts = ((span point (first_word ts)).0, read_vector_operands (span point (first_word ts)).1 ts)
 
 -- tokens with this mnemonic and these operands
 pub record Reads (ts : List Tok) (s : List ℕ) (o : Operands) : Type 0 where
@@ -37,29 +37,29 @@ RowLaw v = Reads (tokens_of v) (mnemonic_of v) (operands_of v)
 -- WORDS
 -- a word that is an operand: its number, and whether it is a vector register
 pub record Operand (w : List ℕ) (n : ℕ) (kind : Kind) : Type 0 where
-  pub value : word_value w ≡ n
+  pub value : vector_word_value w ≡ n
   pub is_kind : kind_by (is_vector_name w) ≡ kind
   pub is : is_name w ≡ true
 
 -- a word for each number, all of one kind
-of_numbers : (f : ℕ → List ℕ) (is_vector : Bool) (n b : ℕ) → agree_below (λ k. eqb (word_value (f k)) k) (λ k. true) n ≡ true
+of_numbers : (f : ℕ → List ℕ) (is_vector : Bool) (n b : ℕ) → agree_below (λ k. eqb (vector_word_value (f k)) k) (λ k. true) n ≡ true
     → agree_below (λ k. is_vector_name (f k)) (λ k. is_vector) n ≡ true → agree_below (λ k. is_name (f k)) (λ k. true) n ≡ true → b < n
     → Operand (f b) b (kind_by is_vector)
 of_numbers f is_vector n b value vector is lt = record {
-  value = below_is (λ k. word_value (f k)) (λ k. k) n b value lt;
+  value = below_is (λ k. vector_word_value (f k)) (λ k. k) n b value lt;
   is_kind = ap kind_by (agree_below_at (λ k. is_vector_name (f k)) (λ k. is_vector) n b vector lt);
   is = below_holds (λ k. is_name (f k)) n b is lt;
 }
 
 pub vector_at : (d : ℕ) → d < 8 → Operand (vector_name d) d kinds.Vector
-unfolding word_value is_vector_name
+unfolding vector_word_value is_vector_name
 vector_at d lt = of_numbers vector_name true 8 d refl refl refl lt
 
 pub a_vector : (d : Below 8) → Operand (vector_name d.value) d.value kinds.Vector
 a_vector d = vector_at d.value d.in_range
 
 register_at : (n : ℕ) → n < 16 → Operand (register_name n) n kinds.Word
-unfolding word_value is_vector_name
+unfolding vector_word_value is_vector_name
 register_at n lt = of_numbers register_name false 16 n refl refl refl lt
 
 pub a_register : (n : Below 16) → Operand (register_name n.value) n.value kinds.Word
@@ -75,14 +75,14 @@ pub odd : (h : Below 6) → Operand (register_name (2 * h.value + 1)) (2 * h.val
 odd h = register_at (2 * h.value + 1) (let lt = h.in_range in omega arith)
 
 pub a_condition : (c : Below 8) → Operand (compare_condition c.value) c.value kinds.Word
-unfolding word_value is_vector_name
+unfolding vector_word_value is_vector_name
 a_condition c = of_numbers compare_condition false 8 c.value refl refl refl c.in_range
 
 abbrev zero_name : ℕ → List ℕ
 zero_name n = cond (nat_eq n 15) (codes "zr") (register_name n)
 
 pub register_or_zero : (n : Below 16) → Operand (zero_name n.value) n.value kinds.Word
-unfolding word_value is_vector_name
+unfolding vector_word_value is_vector_name
 register_or_zero n = of_numbers zero_name false 16 n.value refl refl refl n.in_range
 
 -- SHAPES

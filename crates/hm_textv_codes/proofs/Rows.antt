@@ -37,7 +37,7 @@ use Rattle.hm_textv_rows.specs.Rows.{HasTokens, compare_first_word, interleaved_
 use Rattle.hm_textv_codes.specs.declared.operands.Operands.{Operands}
 use Rattle.hm_textv_codes.specs.Asked.{Asks, AsksOther, IsCodeIn, IsCodeOf, IsOtherCodeOf, interleaved_given, long_given, long_mnemonic}
 use Rattle.hm_textv_codes.specs.Names.{interleaved_mnemonic}
-use Rattle.hm_textv_codes.specs.Operands.{read_operands}
+use Rattle.hm_textv_codes.specs.Operands.{read_vector_operands}
 use Rattle.hm_textv_codes.proofs.Addresses.{reads_at_offsets, reads_indexed, reads_pair, reads_quad}
 use Rattle.hm_textv_codes.proofs.Constants.{constant_reads}
 use Rattle.hm_textv_codes.proofs.Endings.{Suffix, no_suffix, signed_access, suffix_access, suffix_by_sign, suffix_compare, suffix_complex_sum}
@@ -241,12 +241,12 @@ other_code (vector.V22 (v22.Dot i)) s o code moves products asks = products i as
 other_code v s o code moves products asks = absurd asks
 
 pub is_code_in : (ts : List Tok) (w s suffix : List ℕ) (o : Operands) (code : Option ℕ) → w ≡ first_word ts → (s, suffix) ≡ span point w
-    → o ≡ read_operands suffix ts → IsCodeOf (λ (v : Vector). v) s o code → IsOtherCodeOf vector.V2 s o code
+    → o ≡ read_vector_operands suffix ts → IsCodeOf (λ (v : Vector). v) s o code → IsOtherCodeOf vector.V2 s o code
     → IsOtherCodeOf (λ (i : Dot). vector.V22 (v22.Dot i)) s o code → IsCodeIn ts code
 is_code_in ts w s suffix o code first cut read rows moves products v has =
     let parts : (s, suffix) ≡ span point (first_word ts) = cut ∙ ap (λ (x : List ℕ). span point x) first in
     let mnemonic : s ≡ (read_text ts).0 = ap (λ (x : List ℕ × List ℕ). x.0) parts in
-    let operands : o ≡ (read_text ts).1 = read ∙ ap (λ (x : List ℕ × List ℕ). read_operands x.1 ts) parts in
+    let operands : o ≡ (read_text ts).1 = read ∙ ap (λ (x : List ℕ × List ℕ). read_vector_operands x.1 ts) parts in
     elim (text_law v ts has).asks [
       | inl a ↦ rows v (mnemonic ∙ a.0, operands ∙ a.1)
       | inr a ↦ other_code v s o code moves products (rw (← mnemonic, ← operands) at a)

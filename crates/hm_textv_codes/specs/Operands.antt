@@ -23,12 +23,12 @@ other_value w =
     else 0
 
 -- the number that a word stands for: of a vector, else of a core register, else of a condition, else of another word
-unfoldable pub word_value : List ℕ → ℕ
-word_value w = unwrap_or (vector_in w) (unwrap_or (register_in w) (unwrap_or (compare_condition_in w) (other_value w)))
+unfoldable pub vector_word_value : List ℕ → ℕ
+vector_word_value w = unwrap_or (vector_in w) (unwrap_or (register_in w) (unwrap_or (compare_condition_in w) (other_value w)))
 
 -- the number that a token stands for
-abbrev pub value : Tok → ℕ
-value = value_by word_value
+abbrev pub vector_value : Tok → ℕ
+vector_value = value_by vector_word_value
 
 -- what a word is as an operand, where this says whether it names a vector
 abbrev pub kind_by : Bool → Kind
@@ -51,17 +51,17 @@ sign_of suffix = if get_or suffix 1 0 == unsigned_letter then 1 else 0
 
 -- what tokens stand for as numbers, the first being a mnemonic with this suffix: the sign and the size of the elements, the operands
 -- behind the mnemonic and what the third is, how the address is written, and what its base is: a number where there is no address
-abbrev pub read_operands : List ℕ → List Tok → Operands
-read_operands suffix ts = record {
+abbrev pub read_vector_operands : List ℕ → List Tok → Operands
+read_vector_operands suffix ts = record {
   is_bare = length suffix == 0;
   sign = sign_of suffix;
   size = size_of suffix;
   third_kind = kind_of (operand 3 ts);
-  first = value (operand 1 ts);
-  second = value (operand 2 ts);
-  third = value (operand 3 ts);
-  fourth = value (operand 4 ts);
-  fifth = value (operand 5 ts);
+  first = vector_value (operand 1 ts);
+  second = vector_value (operand 2 ts);
+  third = vector_value (operand 3 ts);
+  fourth = vector_value (operand 4 ts);
+  fifth = vector_value (operand 5 ts);
   added = added ts;
   before = before ts;
   back = back_in ts;

@@ -37,7 +37,7 @@ use crate::names::{
     long_shift_part, narrow_in, offsets_name, one_name, reverse_name, scalar_name, signed_name,
     vector_shift_name, wrapped_name,
 };
-use crate::operands::{Kind, Operands, read_operands};
+use crate::operands::{Kind, Operands, read_vector_operands};
 use hm_encv_registers::{
     base_of_dot, base_of_dup, base_of_extreme, base_of_offsets, base_of_scalar,
 };
@@ -475,5 +475,5 @@ pub fn code_in(tokens: &[Token<'_>]) -> Option<u64>
     ensures code { IsCodeIn (map tok tokens.now) result }
 {
     let (mnemonic, suffix) = span(b'.', first_word(tokens));
-    code_of(mnemonic, &read_operands(suffix, tokens))
+    code_of(mnemonic, &read_vector_operands(suffix, tokens))
 }

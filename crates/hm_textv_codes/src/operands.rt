@@ -1,7 +1,7 @@
 //! What a text gives numbers for, read without a refusal, since the row that is found is asked for its text.
 
 ghost use Rattle.std.specs.Prelude.{◌≡◌, map};
-ghost use Rattle.hm_textv_codes.specs.Operands.{compare_condition_in, kind_of, other_value, read_operands, sign_of, value, word_value};
+ghost use Rattle.hm_textv_codes.specs.Operands.{compare_condition_in, kind_of, other_value, read_vector_operands, sign_of, vector_value, vector_word_value};
 ghost use Rattle.hm_tokens.specs.Tokens.{tok};
 
 use hm_text_rows::{
@@ -76,9 +76,9 @@ fn other_value(name: &[u8]) -> u32
 }
 
 /// The number that a word stands for: of a vector, else of a core register, else of a condition, else of another word.
-#[tactic(auto, unfolding(crate::specs::Operands::word_value))]
-fn word_value(name: &[u8]) -> u32
-    ensures { result ≡ word_value name.now }
+#[tactic(auto, unfolding(crate::specs::Operands::vector_word_value))]
+fn vector_word_value(name: &[u8]) -> u32
+    ensures { result ≡ vector_word_value name.now }
 {
     if let Some(n) = read_vector(name) {
         return n;
@@ -93,10 +93,10 @@ fn word_value(name: &[u8]) -> u32
 }
 
 /// The number that a token stands for.
-fn value(token: Token<'_>) -> u32
-    ensures { result ≡ value (tok token.entry) }
+fn vector_value(token: Token<'_>) -> u32
+    ensures { result ≡ vector_value (tok token.entry) }
 {
-    value_by(word_value, token)
+    value_by(vector_word_value, token)
 }
 
 /// What a token is as an operand.
@@ -126,19 +126,19 @@ fn sign_of(suffix: &[u8]) -> u32
 }
 
 /// What tokens stand for, the first being a mnemonic with this suffix, which begins with the point.
-pub fn read_operands(suffix: &[u8], tokens: &[Token<'_>]) -> Operands
-    ensures { result ≡ read_operands suffix.now (map tok tokens.now) }
+pub fn read_vector_operands(suffix: &[u8], tokens: &[Token<'_>]) -> Operands
+    ensures { result ≡ read_vector_operands suffix.now (map tok tokens.now) }
 {
     Operands {
         is_bare: suffix.is_empty(),
         sign: sign_of(suffix),
         size: size_of(suffix),
         third_kind: kind_of(operand(tokens, 3)),
-        first: value(operand(tokens, 1)),
-        second: value(operand(tokens, 2)),
-        third: value(operand(tokens, 3)),
-        fourth: value(operand(tokens, 4)),
-        fifth: value(operand(tokens, 5)),
+        first: vector_value(operand(tokens, 1)),
+        second: vector_value(operand(tokens, 2)),
+        third: vector_value(operand(tokens, 3)),
+        fourth: vector_value(operand(tokens, 4)),
+        fifth: vector_value(operand(tokens, 5)),
         added: added(tokens),
         before: before(tokens),
         back: back_in(tokens),
