@@ -25,7 +25,7 @@ use Rattle.hm_mem.specs.Devices.{has_width, tells_time, device_word}
 use Rattle.hm_mem.specs.Seen.{fault_kind}
 use Rattle.hm_base.specs.Results.{unless}
 use Rattle.hm_moves.specs.Moves.{fault_after, byte_count}
-use Rattle.hm_moves.specs.Ways.{Transfer, each_from, straight, way_writes_lr}
+use Rattle.hm_moves.specs.Ways.{Transfer, each_from, contiguous, way_writes_lr}
 use Rattle.hm_moves.specs.Wholes.{count, fault_of, loaded_elements, read_at, transfer_whole, transferred, written_back}
 use Rattle.hm_rows.specs.Rows.{offset_of}
 use Rattle.hm_run.specs.Program as program
@@ -78,7 +78,7 @@ no_fault store len a aligned low some high =
 
 -- THE TRANSFER of a load or a store of our code
 abbrev pub our_transfer : ElementType → Bool → ℕ → Transfer
-our_transfer t store d = record { store = store; memory = size_of_type t; register = size_of_type t; signed = false; found = straight d 5 0 true false }
+our_transfer t store d = record { store = store; memory = size_of_type t; register = size_of_type t; signed = false; found = contiguous d 5 0 true false }
 
 no_offset : (z : Size) → 0 * byte_count z ≡ 0
 no_offset z = grind arith
@@ -90,7 +90,7 @@ transfer_is : (t : ElementType) (l q : ℕ) (i : Instr) (k : IsMoveRow t l q 5 i
       memory = size_of r.z.value;
       register = size_of r.z.value;
       signed = false;
-      found = straight r.d.value r.n.value (offset_of (nat_eq r.a.value 1) r.i.value (size_of r.z.value)) (nat_eq r.p.value 1) (nat_eq r.w.value 1);
+      found = contiguous r.d.value r.n.value (offset_of (nat_eq r.a.value 1) r.i.value (size_of r.z.value)) (nat_eq r.p.value 1) (nat_eq r.w.value 1);
     } in x)
     ≡ our_transfer t (nat_eq l 0) q
 transfer_is t l q i k =
@@ -99,14 +99,14 @@ transfer_is t l q i k =
       memory = size_of (k.z_is j);
       register = size_of (k.z_is j);
       signed = false;
-      found = straight (k.d_is j) (k.n_is j) (offset_of (nat_eq (k.a_is j) 1) (k.i_is j) (size_of (k.z_is j))) (nat_eq (k.p_is j) 1) (nat_eq (k.w_is j) 1);
+      found = contiguous (k.d_is j) (k.n_is j) (offset_of (nat_eq (k.a_is j) 1) (k.i_is j) (size_of (k.z_is j))) (nat_eq (k.p_is j) 1) (nat_eq (k.w_is j) 1);
     })
     ∙ (λ j. record {
       store = nat_eq l 0;
       memory = size_is t j;
       register = size_is t j;
       signed = false;
-      found = straight q 5 (no_offset (size_of (size_code t)) j) true false;
+      found = contiguous q 5 (no_offset (size_of (size_code t)) j) true false;
     })
 
 -- where elements stand
