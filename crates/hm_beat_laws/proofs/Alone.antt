@@ -24,7 +24,7 @@ use Rattle.hm_forms.specs.declared.form.Form.{Form}
 use Rattle.hm_forms.specs.declared.form.Form.TheVariants as form
 use Rattle.hm_forms_elements.specs.Forms.{offset_after, offsets_from}
 use Rattle.hm_lane_fns.specs.Registers.{operand_register, saturating}
-use Rattle.hm_forms_elements.specs.Registers.{long_product_result, round_at}
+use Rattle.hm_forms_elements.specs.Registers.{long_product_result, merges_under, round_at}
 use Rattle.hm_forms_predicate.specs.Predicates.{half_writes, mask_after, predicate_whole}
 use Rattle.hm_forms_predicate.specs.Blocks.{block_whole}
 use Rattle.hm_forms.specs.Wholes.{form_whole}
@@ -32,7 +32,7 @@ use Rattle.hm_rows.specs.Rows.{Registers}
 use Rattle.hm_beat_laws.specs.Exceptions.{chooses_by_predicate, from_beat, gives_registers, is_predicate, with_predicate}
 use Rattle.hm_beat_laws.specs.Parts.{alone_writes, belongs, form_part, only, part_of}
 use Rattle.hm_beat_laws.proofs.Kept.{apart, apart_too, by_beat, rest_put, sticky_put}
-use Rattle.hm_beat_laws.proofs.Under.{alone, marks_under, merges_under, part_under, whole_under, writes_under}
+use Rattle.hm_beat_laws.proofs.Under.{alone, marks_under, part_under, whole_under, writes_under}
 
 -- WORD b ALONE IS ACTIVE
 bits_back : (p q r t : Bool) → (let n = nibble (p ∷ q ∷ r ∷ t ∷ []) % 2 ^ 4 in

@@ -1,60 +1,22 @@
 -- The whole of a form under 16 truth values in place of the predicate, by what it writes and whether it marks QC.
-use Rattle.std.proofs.Common.{ℕ, ◌+◌, ◌*◌, ◌/◌, Bool, false, ◌&&◌, cond, eqb, List, [], ◌∷◌, ◌++◌}
-use Rattle.hm_base.specs.declared.Place.TheVariants.{R, Carry}
-use Rattle.hm_isa.specs.declared.vectors.V8.{V8}
-use Rattle.hm_isa.specs.declared.vectors.V17.{V17}
-use Rattle.hm_lane.specs.declared.lanes.Size.TheVariants.{Word}
-use Rattle.hm_lane.specs.Lanes.{firsts, merged, per_word, unlanes}
-use Rattle.hm_regs.specs.Writes.{write}
-use Rattle.hm_state.specs.State.{Cell, State, Value, at, into}
-use Rattle.hm_beat.specs.Rows.{predicate_at, register_at, write_register}
+use Rattle.std.proofs.Common.{ℕ, ◌+◌, ◌/◌, Bool, false, ◌&&◌, eqb, List, [], ◌∷◌}
+use Rattle.hm_state.specs.State.{Cell, State, Value}
+use Rattle.hm_beat.specs.Rows.{predicate_at}
 use Rattle.hm_lane_fns.specs.LaneFns.{saturates}
 use Rattle.hm_lane_fns.specs.Words.{any_both, size_of}
-use Rattle.hm_forms_elements.specs.declared.offsets.Steps.{Steps}
 use Rattle.hm_forms.specs.declared.form.Form.{Form}
 use Rattle.hm_forms.specs.declared.form.Form.TheVariants as form
-use Rattle.hm_forms_elements.specs.Forms.{begins, narrowing_saturates, offset_after, offsets_from, shift_of, subtracts}
+use Rattle.hm_forms_elements.specs.Forms.{narrowing_saturates}
 use Rattle.hm_forms_across.specs.Registers.{extreme_under, long_under, sum_under}
 use Rattle.hm_lane_fns.specs.Registers.{saturating}
-use Rattle.hm_forms_elements.specs.Registers.{bits_from, constant_result, flags_from, lanes_result, lanes_saturated, widening_result, narrowing_result}
-use Rattle.hm_forms_elements.specs.Registers.{narrowing_saturated, reversed_result, round_at, shifted_from, sums_from, complex_sum_result, long_product_result}
-use Rattle.hm_forms_elements.specs.Registers.{words_at}
+use Rattle.hm_forms_elements.specs.Registers.{constant_result, lanes_result, lanes_saturated, widening_result, narrowing_result}
+use Rattle.hm_forms_elements.specs.Registers.{narrowing_saturated, reversed_result, complex_sum_result, long_product_result}
+use Rattle.hm_forms_elements.specs.Registers.{carry_under, merges_under, offsets_under, shift_under}
 use Rattle.hm_rows.specs.Rows.{Registers}
 use Rattle.hm_beat_laws.specs.Exceptions.{from_beat, gives_registers}
 use Rattle.hm_beat_laws.specs.Parts.{belongs, part_of}
 
 -- THE WHOLE UNDER ANY PREDICATE: 16 truth values in place of those of the state
--- a register merges 16 bytes under these truth values
-abbrev pub merges_under : List Bool → ℕ → List ℕ → State → List (Cell × Value)
-merges_under ps d result s = write_register d (merged ps (register_at d s) result)
-
--- V8: what VADC, VADCI, VSBC and VSBCI write under these truth values (DDI0553, "VADC" and "VSBC")
-abbrev pub carry_under : List Bool → V8 → State → List (Cell × Value)
-carry_under ps r s =
-    let start = cond (begins r.name) (cond (subtracts r.name) 2 0) (at Carry s) in
-    let active = firsts Word ps in
-    let result = unlanes Word (sums_from r.name active (words_at r.n.value s) (words_at r.m.value s) start) in
-    let flags = flags_from r.name active (words_at r.n.value s) (words_at r.m.value s) start in
-    into (write Carry flags) ∷ merges_under ps r.d.value result s
-
--- V17: what VSHLC writes under these truth values (DDI0553, "VSHLC")
-abbrev pub shift_under : List Bool → V17 → State → List (Cell × Value)
-shift_under ps r s =
-    let place = R r.m.value in
-    let active = firsts Word ps in
-    let result = unlanes Word (shifted_from (shift_of r) active (words_at r.d.value s) (at place s)) in
-    let bits = bits_from (shift_of r) active (words_at r.d.value s) (at place s) in
-    into (write place bits) ∷ merges_under ps r.d.value result s
-
--- V19: what VIDUP, VIWDUP, VDDUP and VDWDUP write under these truth values (DDI0553, "VIDUP, VIWDUP" and "VDDUP, VDWDUP")
-abbrev pub offsets_under : List Bool → Steps → State → List (Cell × Value)
-offsets_under ps r s =
-    let place = R (2 * r.n.value) in
-    let count = 4 * per_word r.z in
-    let result = unlanes r.z (offsets_from r (round_at r.round s) count (at place s)) in
-    let next = offset_after r (round_at r.round s) count (at place s) in
-    merges_under ps r.d.value result s ++ (into (write place next) ∷ [])
-
 -- what a form writes under these truth values, beside P0 and the masks
 abbrev pub writes_under : List Bool → Form → State → List (Cell × Value)
 writes_under ps (form.Lanes l) s = merges_under ps l.d.value (lanes_result l s) s

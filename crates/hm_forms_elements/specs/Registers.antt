@@ -18,7 +18,7 @@ use Rattle.hm_lane.specs.declared.lanes.Size.TheVariants.{Byte, Half, Word}
 use Rattle.hm_lane.specs.Lanes.{bytes_of, firsts, merged, paired, per_word, spread, unlanes}
 use Rattle.hm_regs.specs.Writes.{write}
 use Rattle.hm_state.specs.State.{Cell, State, Value, at, into}
-use Rattle.hm_beat.specs.Rows.{predicate_at, register_at, word_place}
+use Rattle.hm_beat.specs.Rows.{predicate_at, register_at, word_place, write_register}
 use Rattle.hm_lane_fns.specs.LaneFns.{lane_of, lane_saturates, saturates}
 use Rattle.hm_lane_fns.specs.Registers.{elements, merges, operand_register, saturating}
 use Rattle.hm_lane_fns.specs.Words.{any_both, lane_tests3, lanewise3, size_of, truths}
@@ -33,6 +33,10 @@ use Rattle.hm_forms_elements.specs.Forms.{offsets_from, product, shift_of, subtr
 -- the four words of a register, the lowest first
 abbrev pub words_at : ℕ → State → List ℕ
 words_at q s = at (word_place q 0) s ∷ at (word_place q 1) s ∷ at (word_place q 2) s ∷ at (word_place q 3) s ∷ []
+
+-- a register merges 16 bytes under 16 truth values
+abbrev pub merges_under : List Bool → ℕ → List ℕ → State → List (Cell × Value)
+merges_under ps d result s = write_register d (merged ps (register_at d s) result)
 
 -- LANES
 -- V1 to V5, V7, V10, V11, V13 and V18, as VADD and VDUP: the 16 new bytes, lane by lane (DDI0553, the sections named at these rows' types)
@@ -108,14 +112,18 @@ abbrev pub flags_from : CarryName → List Bool → List ℕ → List ℕ → �
 flags_from name (p ∷ ps) (x ∷ xs) (y ∷ ys) flags = flags_from name ps xs ys (flags_after name p flags x y)
 flags_from name _ _ _ flags = flags
 
--- V8: what VADC, VADCI, VSBC and VSBCI write: the flags and a vector register (DDI0553, "VADC" and "VSBC")
-abbrev pub carry_writes : V8 → State → List (Cell × Value)
-carry_writes r s =
+-- V8: VADC, VADCI, VSBC and VSBCI under 16 truth values: what the flags and a vector register get (DDI0553, "VADC" and "VSBC")
+abbrev pub carry_under : List Bool → V8 → State → List (Cell × Value)
+carry_under ps r s =
     let start = cond (begins r.name) (cond (subtracts r.name) 2 0) (at Carry s) in
-    let active = firsts Word (predicate_at s) in
+    let active = firsts Word ps in
     let result = unlanes Word (sums_from r.name active (words_at r.n.value s) (words_at r.m.value s) start) in
     let flags = flags_from r.name active (words_at r.n.value s) (words_at r.m.value s) start in
-    into (write Carry flags) ∷ merges r.d.value result s
+    into (write Carry flags) ∷ merges_under ps r.d.value result s
+
+-- V8: what VADC, VADCI, VSBC and VSBCI write, which is under the predicate (DDI0553, "VADC" and "VSBC")
+abbrev pub carry_writes : V8 → State → List (Cell × Value)
+carry_writes r s = carry_under (predicate_at s) r s
 
 -- BITS from word to word
 -- what an active word lets out, and what goes by another one
@@ -132,14 +140,18 @@ abbrev pub bits_from : ℕ → List Bool → List ℕ → ℕ → ℕ
 bits_from n (p ∷ ps) (c ∷ cs) m = bits_from n ps cs (bits_after n p m c)
 bits_from n _ _ m = m
 
--- V17: what VSHLC writes: a core register and a vector register (DDI0553, "VSHLC")
-abbrev pub shift_writes : V17 → State → List (Cell × Value)
-shift_writes r s =
+-- V17: VSHLC under 16 truth values: what a core register and a vector register get (DDI0553, "VSHLC")
+abbrev pub shift_under : List Bool → V17 → State → List (Cell × Value)
+shift_under ps r s =
     let place = R r.m.value in
-    let active = firsts Word (predicate_at s) in
+    let active = firsts Word ps in
     let result = unlanes Word (shifted_from (shift_of r) active (words_at r.d.value s) (at place s)) in
     let bits = bits_from (shift_of r) active (words_at r.d.value s) (at place s) in
-    into (write place bits) ∷ merges r.d.value result s
+    into (write place bits) ∷ merges_under ps r.d.value result s
+
+-- V17: what VSHLC writes, which is under the predicate (DDI0553, "VSHLC")
+abbrev pub shift_writes : V17 → State → List (Cell × Value)
+shift_writes r s = shift_under (predicate_at s) r s
 
 -- NEIGHBOURS
 -- to each element its neighbour is added, or it is taken away
@@ -201,11 +213,16 @@ abbrev pub round_at : Option (Below 6) → State → Option ℕ
 round_at None s = None
 round_at (Some q) s = Some (at (R (2 * q.value + 1)) s)
 
--- offsets from a register on, which gets the next one
-abbrev pub offsets_writes : Steps → State → List (Cell × Value)
-offsets_writes r s =
+-- V19: VIDUP, VIWDUP, VDDUP and VDWDUP under 16 truth values: offsets from a register on, which gets the next one
+-- (DDI0553, "VIDUP, VIWDUP" and "VDDUP, VDWDUP")
+abbrev pub offsets_under : List Bool → Steps → State → List (Cell × Value)
+offsets_under ps r s =
     let place = R (2 * r.n.value) in
     let count = 4 * per_word r.z in
     let result = unlanes r.z (offsets_from r (round_at r.round s) count (at place s)) in
     let next = offset_after r (round_at r.round s) count (at place s) in
-    merges r.d.value result s ++ (into (write place next) ∷ [])
+    merges_under ps r.d.value result s ++ (into (write place next) ∷ [])
+
+-- V19: what VIDUP, VIWDUP, VDDUP and VDWDUP write, which is under the predicate (DDI0553, "VIDUP, VIWDUP" and "VDDUP, VDWDUP")
+abbrev pub offsets_writes : Steps → State → List (Cell × Value)
+offsets_writes r s = offsets_under (predicate_at s) r s
