@@ -19,6 +19,7 @@ use Rattle.hm_mem.specs.Memory.{Around, Memory, memory_of}
 use Rattle.hm_order.specs.Beats.{then}
 use Rattle.hm_order.specs.Machine as order
 use Rattle.hm_order.specs.Machine.{Config, begin, begun, done, older, settle}
+use Rattle.hm_in_order.proofs.Laws.{caused_ok}
 use Rattle.hm_in_order.proofs.Vectors.{beat_pc}
 use Rattle.hm_regs.specs.Place.{Counted, InRange}
 use Rattle.hm_regs.specs.declared.Regs.{Regs}
@@ -75,11 +76,7 @@ pub beat_stays : (v : Vector) (b : ℕ) (old new : Regs) (m n : Memory) (output 
 unfolding state_of
 beat_stays v b old new m n output e =
     beat_pc (of_four (vector_tree v m.around) b) (state_of old m output) (state_of new n output)
-    (uncaused ((action cells (of_four (vector_tree v m.around) b)).run (state_of old m output)) (state_of new n output) (sym e))
-  where
-    uncaused : (x : Result State Stop) (t : State) → caused x ≡ Ok t → x ≡ Ok t
-    uncaused (Ok s) t e = let same : s ≡ t = cc in ap Ok same
-    uncaused (Err w) t e = absurd cc
+    (caused_ok ((action cells (of_four (vector_tree v m.around) b)).run (state_of old m output)) (state_of new n output) (sym e))
 
 -- a row that has its four beats
 pub settled : (listing : Listing) (around : Around) (r : Regs) (m : Memory) (output : List ℕ) (a b n steps : ℕ) → a ≡ 4

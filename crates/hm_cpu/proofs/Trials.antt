@@ -19,6 +19,7 @@ use Rattle.hm_mem.specs.Seen.{IsSameElsewhere}
 use Rattle.hm_order.specs.Beats.{then}
 use Rattle.hm_order.specs.Machine as order
 use Rattle.hm_order.specs.Machine.{Config, did, done, older_of, settle, younger, younger_of}
+use Rattle.hm_in_order.proofs.Laws.{caused_ok}
 use Rattle.hm_in_order.proofs.Vectors.{beat_rest}
 use Rattle.hm_plan_laws.specs.Greedy.{goes_on, is_ready}
 use Rattle.hm_regs.specs.declared.Regs.{Regs}
@@ -106,10 +107,6 @@ pub held_first : (h : Held) (m n : Memory) (a : ℕ) (xs : List ℕ) → h ≡ h
 held_first h m n a xs e s = subst (λ (x : ℕ). IsSameBut (x ∷ xs) m n) (sym (ap (λ (x : Held). x.addr) e)) s
 
 -- THE TWO STEPS
-uncaused : (x : Result State Stop) (t : State) → caused x ≡ Ok t → x ≡ Ok t
-uncaused (Ok s) t e = let same : s ≡ t = cc in ap Ok same
-uncaused (Err w) t e = absurd cc
-
 module _ (listing : Listing) (v : Vector) (r : Regs) (m : Memory) (output : List ℕ) (n steps : ℕ) where
   abbrev M : Program
   M = core listing m.around
@@ -191,7 +188,7 @@ unfolding state_of
 stored v r m output t p beat same =
     let s : State = state_of r m output in
     let did : (action cells (vector_tree v m.around 2)).run s ≡ Ok (state_of t p output) =
-    uncaused ((action cells (vector_tree v m.around 2)).run s) (state_of t p output) (sym beat) in
+    caused_ok ((action cells (vector_tree v m.around 2)).run s) (state_of t p output) (sym beat) in
     let kept = kept_law (vector_tree v m.around 2) s (state_of t p output) did in
     record {
       bytes = λ a h. ap (λ (x : Value). x.n) (kept.bytes a h);

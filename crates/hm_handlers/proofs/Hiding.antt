@@ -2,7 +2,6 @@
 use Rattle.std.proofs.Common.{◌≡◌, ℕ, zero, suc, ◌-◌, ◌==◌, slice_index, ap, refl, sym, ◌∙◌, subst, Bool, true, false, cond, nat_lt, List, [], Option, Some}
 use Rattle.std.proofs.Common.{None, Result, Ok, Err}
 use Rattle.hm_base.specs.declared.Fault.{Fault}
-use Rattle.hm_base.specs.declared.Stop.{Stop}
 use Rattle.hm_beat.specs.Laws.{WritesTaint}
 use Rattle.hm_beat.specs.Ordered.{nothing, of_four}
 use Rattle.hm_beat.specs.Trees.{action, reach}
@@ -19,13 +18,14 @@ use Rattle.hm_mem.specs.declared.Dev.{Dev}
 use Rattle.hm_order.specs.Beats.{Live}
 use Rattle.hm_order.specs.Machine.{begin}
 use Rattle.hm_order.proofs.Results.{decide, ok_err, ok_same, true_not_false}
+use Rattle.hm_in_order.proofs.Laws.{caused_ok}
 use Rattle.hm_in_order.proofs.Ticks.{open_arrived, open_cond}
 use Rattle.hm_in_order.proofs.Vectors.{beat_rest}
 use Rattle.hm_rows.proofs.Context.{context_fresh, fresh}
 use Rattle.hm_rows.proofs.Rows.{row_laws}
 use Rattle.hm_rows.specs.Context.{with_context}
 use Rattle.hm_rows.specs.Rows.{refuse, vector_tree}
-use Rattle.hm_run.specs.Program.{Program, begins, caused, with_cause, rows, unless_refused}
+use Rattle.hm_run.specs.Program.{Program, begins, with_cause, rows, unless_refused}
 use Rattle.hm_run.specs.Timed.{counted_with, with_devices}
 use Rattle.hm_sched.specs.Schedule.{Sched}
 use Rattle.hm_state.specs.State.{State, At, Byte, Value, Rest, cells, regs_of}
@@ -125,10 +125,6 @@ scalar_hides frame bounds i s y e =
     hidden_by s y (subst (GoesHidden s) e (whole-hides frame bounds i s)) (goes_output s _ y e)
 
 -- A BEAT OF A HANDLER
-pub caused_ok : (r : Result State Stop) (t : State) → caused r ≡ Ok t → r ≡ Ok t
-caused_ok (Ok s) t e = ap Ok (ok_same e)
-caused_ok (Err f) t e = absurd (ok_err (sym e))
-
 module _ (x : Around) (handler : marks x.actor ≡ true) where
   taints : (v : Vector) (k : ℕ) (s : State) → WritesTaint true (reach (of_four (vector_tree v x) k) s).writes
   taints v k s = one_of (nat_lt k 4)

@@ -1,6 +1,7 @@
 -- What a step leaves of what stands beside the cells: the exception number, who accesses the memory, a sound IT byte and priorities.
 use Rattle.std.proofs.Common.{◌≡◌, ◌≢◌, ℕ, zero, suc, ◌==◌, ◌+◌, ap, refl, sym, ◌∙◌, subst, Bool, true, false, cond, not, ◌&&◌, ◌||◌, nat_eq, nat_lt, eqb-true}
 use Rattle.std.proofs.Common.{List, length, Option, Some, None, Result, Ok, Err, arith}
+use Rattle.std.proofs.lemmas.Bool.{and_parts}
 use Rattle.std.specs.Prelude.{IfOk, is_none}
 use Rattle.hm_base.specs.declared.Fault.{Fault}
 use Rattle.hm_base.specs.declared.FaultKind.TheVariants.{InvState}
@@ -45,7 +46,8 @@ use Rattle.hm_whole.specs.Whole.{Went, goes_from, scalar_in_machine, seen_in, st
 use Rattle.hm_window.specs.declared.rule.Rule.{Rule}
 use Rattle.hm_window.specs.declared.rule.Rule.TheVariants as rule
 use Rattle.hm_handlers.proofs.Entering.{byte_in, number_in, spsel_in}
-use Rattle.hm_handlers.proofs.Hiding.{begins_with, caused_ok}
+use Rattle.hm_handlers.proofs.Hiding.{begins_with}
+use Rattle.hm_in_order.proofs.Laws.{caused_ok, none_of}
 use Rattle.hm_handlers.specs.Sound.{FitsInside}
 
 -- AN INSTRUCTION leaves these
@@ -116,14 +118,6 @@ past_first a b = by_first (suc a == 0) refl
     by_first true e = let zero_is : suc a ≡ 0 = eqb-true (suc a) 0 e in absurd (omega arith)
     by_first false e = refl
 
-none_of : (o : Option Fault) → is_none o ≡ true → o ≡ None
-none_of None e = refl
-none_of (Some f) e = absurd cc
-
-both : (a b : Bool) → (a && b) ≡ true → (a ≡ true) × (b ≡ true)
-both true b e = (refl, e)
-both false b e = absurd cc
-
 ready_is : (b : Bool) → cond b None (Some rule.YoungerFault) ≡ None → b ≡ true
 ready_is true h = refl
 ready_is false h = absurd cc
@@ -137,7 +131,7 @@ ready_same r q e h = subst Ready (sym e) h
 
 ready_younger : (w : Vector) (s : State) → refusal_rule (Some w) s ≡ None → Ready s.rest
 ready_younger w s h =
-    let parts = both s.rest.fpca (is_none (refuse w s)) (ready_is (is_ready w s) h) in
+    let parts = and_parts s.rest.fpca (is_none (refuse w s)) (ready_is (is_ready w s) h) in
     (free_it w s (none_of (refuse w s) parts.1), parts.0)
 
 -- what a beat of a row leaves

@@ -31,7 +31,7 @@ use Rattle.hm_state.specs.State.{State, Cell, At, Byte, Value, cells, same_cell}
 use Rattle.hm_state.specs.Store.{put, put_all}
 use Rattle.hm_thumb.specs.Laws.{under_handler}
 use Rattle.hm_handlers.proofs.Growing.{Allowed, Grows, Nothing, all_allowed, grows_none, grows_then}
-use Rattle.hm_handlers.proofs.Hiding.{caused_ok}
+use Rattle.hm_in_order.proofs.Laws.{caused_ok}
 
 -- what is written are places, and such bytes
 abbrev pub At_ : (ℕ → Type 0) → Cell → Type 0

@@ -1,6 +1,7 @@
 -- The machine of a program keeps the laws of the machine that overlaps beats.
 use Rattle.std.proofs.Common.{◌≡◌, ℕ, zero, suc, ◌<◌, ◌≤◌, arith, ◌&&◌, ◌||◌, ap, refl, sym, ◌∙◌, subst, Bool, true, false, not, ltb, nat_lt, cond, Option}
 use Rattle.std.proofs.Common.{Some, None, Result, Ok, Err, inl, inr, ⊎_elim}
+use Rattle.std.proofs.lemmas.Bool.{and_parts}
 use Rattle.std.proofs.lemmas.Bool.Decides.{nat_tests}
 use Rattle.std.specs.Option.{is_none}
 use Rattle.std.specs.Prelude.{option_map}
@@ -161,7 +162,7 @@ module _ (listing : Listing) (around : Around) where
   clean_after thread s t h e = clean_of t (subst Leaves e (leaves around thread (listing s.pc) s (clean_bytes s h)))
 
 -- STOPS AND RULES
-untainted : (w : WholeStop) → is_tainted_cause (cause_of w) ≡ false
+pub untainted : (w : WholeStop) → is_tainted_cause (cause_of w) ≡ false
 untainted w = grind arith
 
 broken : (b : Bool) → cond b None (Some rule.YoungerFault) ≡ None → b ≡ true
@@ -169,9 +170,14 @@ broken true e = refl
 broken false e = let no : Some rule.YoungerFault ≡ None = e in absurd cc
 
 -- BEATS, from what they do to the cells to what the machine sees
-caused_ok : (r : Result State Stop) (t : State) → caused r ≡ Ok t → r ≡ Ok t
+pub caused_ok : (r : Result State Stop) (t : State) → caused r ≡ Ok t → r ≡ Ok t
 caused_ok (Ok s) t e = ap Ok (ok_same e)
 caused_ok (Err f) t e = absurd (ok_err (sym e))
+
+pub caused_then : (q : Result State Stop) (f : State → Result State Cause) (g : State → Result State Stop) → ((t : State) → f t ≡ caused (g t))
+    → then (caused q) f ≡ caused (then q g)
+caused_then (Ok t) f g h = h t
+caused_then (Err e) f g h = refl
 
 stops_caused : (r : Result State Stop) → StopsBy is_tainted r → StopsBy is_tainted_cause (caused r)
 stops_caused (Ok s) h = h
@@ -328,11 +334,6 @@ module _ (x : Around) (thread : x.actor ≡ Thread) where
       late_of c e = (grind (arith, nat_tests), grind (arith, nat_tests))
 
   -- WHOLE ROWS
-  caused_then : (q : Result State Stop) (f : State → Result State Cause) (g : State → Result State Stop) → ((t : State) → f t ≡ caused (g t))
-      → then (caused q) f ≡ caused (then q g)
-  caused_then (Ok t) f g h = h t
-  caused_then (Err e) f g h = refl
-
   beats_caused : (v : Vector) (n k : ℕ) (s : State) → beats (rows x) v k n s ≡ caused (row_beats x v k n s)
   beats_caused v zero k s = refl
   beats_caused v (suc n) k s = caused_then ((action cells (of_four (vector_tree v x) k)).run s) (beats (rows x) v (suc k) n) (row_beats x v (suc k) n)
@@ -377,17 +378,13 @@ made_pc : (b : Bool) (s : State) → (cond b (with_context s) s).pc ≡ s.pc
 made_pc true s = context_pc s
 made_pc false s = refl
 
-both_true : (a b : Bool) → (a && b) ≡ true → (a ≡ true) × (b ≡ true)
-both_true true b e = (refl, e)
-both_true false b e = absurd cc
-
-none_of : (o : Option Fault) → is_none o ≡ true → o ≡ None
+pub none_of : (o : Option Fault) → is_none o ≡ true → o ≡ None
 none_of None e = refl
 none_of (Some f) e = absurd cc
 
 started : (v : Vector) (s : State) → is_ready v s ≡ true → begins v s ≡ Ok s
 started v s ready =
-    let h = both_true s.rest.fpca (is_none (refuse v s)) ready in
+    let h = and_parts s.rest.fpca (is_none (refuse v s)) ready in
     ap (λ (t : State). with_cause (unless_refused (refuse v t) t)) (context_there s h.0)
     ∙ ap (λ (o : Option Fault). with_cause (unless_refused o s)) (none_of (refuse v s) h.1)
 

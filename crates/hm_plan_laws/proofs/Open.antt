@@ -1,7 +1,8 @@
 -- Readiness in so many words, and runs to which more ticks may be added.
-use Rattle.std.proofs.Common.{◌≡◌, ◌↔◌, ℕ, ◌+◌, ◌==◌, ◌&&◌, arith, Bool, true, false, List, ◌∷◌, ◌++◌, drop, take, length, Option, Some, None, Ok, Err}
+use Rattle.std.proofs.Common.{◌≡◌, ◌↔◌, ℕ, ◌+◌, ◌==◌, ◌&&◌, arith, true, List, ◌∷◌, ◌++◌, drop, take, length, Option, Some, None, Ok, Err}
 use Rattle.std.proofs.Common.{refl, sym, ◌∙◌, ap}
 use Rattle.std.proofs.Math.Seq.{drop-append_seam, take-append_seam}
+use Rattle.std.proofs.lemmas.Bool.{and_parts}
 use Rattle.std.proofs.lemmas.Bool.Decides.{nat_tests}
 use Rattle.hm_base.specs.Image.{Segment}
 use Rattle.hm_codes.specs.Listing.{Listing}
@@ -19,10 +20,6 @@ use Rattle.hm_state.specs.State.{State}
 use Rattle.hm_window.specs.declared.rule.Rule.{Rule}
 
 -- READINESS
-both_true : (a b : Bool) → (a && b) ≡ true → (a ≡ true) × (b ≡ true)
-both_true true b e = (refl, e)
-both_true false b e = absurd cc
-
 nat_is : (a b : ℕ) → (a == b) ≡ true → a ≡ b
 nat_is a b e = grind (arith, nat_tests)
 
@@ -50,8 +47,8 @@ module _ (M : Program) where
 
   told : (c : Config State) → is_ready M c ≡ true → IsReady M c
   told c e =
-      let first = both_true (c.a == 2) ((c.b == 0) && goes_on (then (older M c) (younger M))) e in
-      let second = both_true (c.b == 0) (goes_on (then (older M c) (younger M))) first.1 in
+      let first = and_parts (c.a == 2) ((c.b == 0) && goes_on (then (older M c) (younger M))) e in
+      let second = and_parts (c.b == 0) (goes_on (then (older M c) (younger M))) first.1 in
       first_of_two c (older M c) (nat_is c.a 2 first.0) (nat_is c.b 0 second.0) refl second.1
 
   tells : (c : Config State) → IsReady M c → is_ready M c ≡ true
