@@ -31,7 +31,8 @@ use Rattle.hm_forms.specs.Wholes.{form_whole}
 use Rattle.hm_rows.specs.Rows.{Registers}
 use Rattle.hm_beat_laws.specs.Exceptions.{chooses_by_predicate, from_beat, gives_registers, is_predicate, with_predicate}
 use Rattle.hm_beat_laws.specs.Parts.{alone_writes, belongs, form_part, only, part_of}
-use Rattle.hm_beat_laws.proofs.Kept.{apart, apart_too, by_beat, rest_put, sticky_put}
+use Rattle.hm_moves.proofs.Stored.{rest-put_all, sticky-put_all}
+use Rattle.hm_beat_laws.proofs.Kept.{apart, apart_too, by_beat}
 use Rattle.hm_beat_laws.proofs.Under.{alone, marks_under, part_under, whole_under, writes_under}
 
 -- WORD b ALONE IS ACTIVE
@@ -176,9 +177,9 @@ module _ (b : ℕ) (s : State) (f : Cell → Bool) (m n : Bool) (ws us : List (C
   pub same_part : part_of f (saturating m ws s) s ≡ part_of f (with_predicate (saturating n us s) (saturating m ws u)) s
   same_part = λ j. record {
     cell = λ c. cond (f c) (cell_is c (is_predicate c) refl j) (s.cell c);
-    sticky = m || ((sticky_put (ws ++ advance_half 0 s ++ advance_half 2 s) s ∙ sym (sticky_put (ws ++ advance_half 0 u ++ advance_half 2 u) u)) j);
+    sticky = m || ((sticky-put_all (ws ++ advance_half 0 s ++ advance_half 2 s) s ∙ sym (sticky-put_all (ws ++ advance_half 0 u ++ advance_half 2 u) u)) j);
     pc = s.pc;
-    rest = (rest_put (ws ++ advance_half 0 s ++ advance_half 2 s) s ∙ sym (rest_put (ws ++ advance_half 0 u ++ advance_half 2 u) u)) j;
+    rest = (rest-put_all (ws ++ advance_half 0 s ++ advance_half 2 s) s ∙ sym (rest-put_all (ws ++ advance_half 0 u ++ advance_half 2 u) u)) j;
   }
 
 -- WHAT IS READ OF IT
@@ -270,9 +271,9 @@ module _ (b : ℕ) (s : State) (ws us : List (Cell × Value)) (beside : (c : Cel
       → part_of f (retired (put_all cells ws s)) s ≡ part_of f (with_predicate (retired (put_all cells ws s)) (retired (put_all cells us (only b s)))) s
   predicate_part f = λ j. record {
     cell = λ c. cond (f c) (one_cell c (is_predicate c) refl j) (s.cell c);
-    sticky = (sticky_put ws s ∙ sym (sticky_put us (only b s))) j;
+    sticky = (sticky-put_all ws s ∙ sym (sticky-put_all us (only b s))) j;
     pc = s.pc;
-    rest = (rest_put ws s ∙ sym (rest_put us (only b s))) j;
+    rest = (rest-put_all ws s ∙ sym (rest-put_all us (only b s))) j;
   }
 
 pub slices_part : (l m : List Bool) (new : Option ℕ) (b : ℕ) (s : State)

@@ -28,17 +28,14 @@ use Rattle.hm_moves.specs.Moves.{fault_after, byte_count}
 use Rattle.hm_moves.specs.Ways.{Found, Transfer, at_addresses, at_offsets, contiguous, each_from, interleaved, registers}
 use Rattle.hm_moves.specs.Wholes.{addresses, are_moved, count, element_bytes, fault_of, filled_registers, loaded, loaded_elements, number_bytes, part_word}
 use Rattle.hm_moves.specs.Wholes.{stored_elements, taken_by, transfer_whole, transferred, written_back}
-use Rattle.hm_moves.proofs.Trees.{checked_clean, fault_stop}
+use Rattle.hm_moves.proofs.Stored.{rest-put_all, sticky-put_all}
+use Rattle.hm_moves.proofs.Trees.{checked_clean, fault_stop, or_faults}
 use Rattle.hm_beat_laws.specs.Exceptions.{element_stop, mark, marked}
 use Rattle.hm_beat_laws.specs.MovedParts.{first_among, loaded_among, moved_among, transfer_among, untainted}
 use Rattle.hm_beat_laws.proofs.MovedParts.{marked-append, marked_words}
-use Rattle.hm_beat_laws.proofs.Kept.{rest_put, sticky_put}
 use Rattle.hm_beat_laws.proofs.Stops.{all_checked, no_fault, or_none}
 
 -- STOPS ARE FAULTS
-or_faults : (f g : Option Fault) → option_or (fault_stop f) (fault_stop g) ≡ fault_stop (option_or f g)
-or_faults f g = grind arith
-
 where_fault : (p : Bool) (o : Option Fault) → cond p (fault_stop o) None ≡ fault_stop (cond p o None)
 where_fault p o = grind arith
 
@@ -205,9 +202,9 @@ same_but_taint m t s ws =
     (λ j. untainted (retired (put_all cells (one_list (marked m ws) (written_back t.found s) (advance_half 0 s) (advance_half 2 s) j) s)))
     ∙ (λ j. record {
       cell = λ c. like_marked m ws rest s s (λ d. refl) c j;
-      sticky = (sticky_put left s ∙ sym (sticky_put right s)) j;
+      sticky = (sticky-put_all left s ∙ sym (sticky-put_all right s)) j;
       pc = (pc-put_all left s ∙ sym (pc-put_all right s)) j + 4;
-      rest = (rest_put left s ∙ sym (rest_put right s)) j;
+      rest = (rest-put_all left s ∙ sym (rest-put_all right s)) j;
     })
     ∙ (λ j. untainted (retired (put_all cells (sym (one_list ws (written_back t.found s) (advance_half 0 s) (advance_half 2 s)) j) s)))
 

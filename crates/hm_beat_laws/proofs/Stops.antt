@@ -13,6 +13,7 @@ use Rattle.hm_mem.specs.declared.Actor.{Actor}
 use Rattle.hm_mem.specs.declared.Actor.TheVariants.{Thread, Handler, Entry}
 use Rattle.hm_mem.specs.Devices.{has_width, in_devices, tells_time, device_word}
 use Rattle.hm_moves.proofs.Accesses.{in_memory, within}
+use Rattle.hm_moves.proofs.Checked.{four_bytes, one_byte, two_bytes}
 use Rattle.hm_mem.proofs.Stops.{fault_free, neither_stops, no_word}
 use Rattle.hm_whole.specs.Whole.{seen_in}
 use Rattle.hm_mem.specs.Memory.{Around}
@@ -63,15 +64,6 @@ checked_where true a bs cs s = checked_asks a bs cs s ∙ where_true (any_tainte
 checked_where false a bs cs s = refl
 
 -- an element has the stop of its access
-one_byte : (p : Bool) → (p || false) ≡ ((p || false) || false)
-one_byte p = grind arith
-
-two_bytes : (p q : Bool) → (p || (q || false)) ≡ ((p || q) || false)
-two_bytes p q = grind arith
-
-four_bytes : (p q r s : Bool) → (p || (q || (r || (s || false)))) ≡ ((p || q) || (r || s))
-four_bytes p q r s = grind arith
-
 module _ (x : Around) (store : Bool) (y : Size) (s : State) (a : ℕ) where
   abbrev taint : ℕ → Bool
   taint = (seen_in s).taint

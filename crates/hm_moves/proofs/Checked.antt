@@ -40,19 +40,19 @@ checked_asks m r output a (b ∷ bs) cs = ap (λ o. cond (tainted_at m b) (Some 
     twice true q = refl
     twice false q = refl
 
-four_bytes : (p q r s : Bool) → (p || (q || (r || (s || false)))) ≡ ((p || q) || (r || s))
+pub four_bytes : (p q r s : Bool) → (p || (q || (r || (s || false)))) ≡ ((p || q) || (r || s))
 four_bytes true q r s = refl
 four_bytes false true r s = refl
 four_bytes false false true s = refl
 four_bytes false false false true = refl
 four_bytes false false false false = refl
 
-two_bytes : (p q : Bool) → (p || (q || false)) ≡ ((p || q) || false)
+pub two_bytes : (p q : Bool) → (p || (q || false)) ≡ ((p || q) || false)
 two_bytes true q = refl
 two_bytes false true = refl
 two_bytes false false = refl
 
-one_byte : (p : Bool) → (p || false) ≡ ((p || false) || false)
+pub one_byte : (p : Bool) → (p || false) ≡ ((p || false) || false)
 one_byte true = refl
 one_byte false = refl
 

@@ -72,11 +72,12 @@ put_span t e ws a (suc n) b s h =
     same y =
         let f = eqb-true a b y in let g : 0 ≡ b - a = omega arith in ap (λ (j : ℕ). (record { n = byte_of (get_or ws e.word 0) (e.lane + j); taint = t })) g
 
-sticky-put_all : (ws : List (Cell × Value)) (s : State) → (put_all cells ws s).sticky ≡ s.sticky
+-- no cell is QC, and none what stands beside cells
+pub sticky-put_all : (ws : List (Cell × Value)) (s : State) → (put_all cells ws s).sticky ≡ s.sticky
 sticky-put_all [] s = refl
 sticky-put_all (w ∷ ws) s = sticky-put_all ws (put cells w.0 w.1 s)
 
-rest-put_all : (ws : List (Cell × Value)) (s : State) → (put_all cells ws s).rest ≡ s.rest
+pub rest-put_all : (ws : List (Cell × Value)) (s : State) → (put_all cells ws s).rest ≡ s.rest
 rest-put_all [] s = refl
 rest-put_all (w ∷ ws) s = rest-put_all ws (put cells w.0 w.1 s)
 

@@ -230,7 +230,7 @@ checked_where : (y : Bool) (a : ℕ) (bs : List ℕ) (cs : List (Check Cell Stop
 checked_where true a bs cs s clean = checked_asks a bs cs s clean
 checked_where false a bs cs s clean = refl
 
-or_faults : (f g : Option Fault) → option_or (fault_stop f) (fault_stop g) ≡ fault_stop (option_or f g)
+pub or_faults : (f g : Option Fault) → option_or (fault_stop f) (fault_stop g) ≡ fault_stop (option_or f g)
 or_faults None g = refl
 or_faults (Some f) g = refl
 
