@@ -23,8 +23,8 @@ use Rattle.hm_beat.proofs.Whole.{put_all-append}
 use Rattle.hm_forms.specs.declared.form.Form.{Form}
 use Rattle.hm_forms.specs.declared.form.Form.TheVariants as form
 use Rattle.hm_forms_elements.specs.Forms.{offset_after, offsets_from}
-use Rattle.hm_lane_fns.specs.Registers.{operand_register, saturating}
-use Rattle.hm_forms_elements.specs.Registers.{long_product_result, merges_under, round_at}
+use Rattle.hm_lane_fns.specs.Registers.{merges_under, operand_register, saturating}
+use Rattle.hm_forms_elements.specs.Registers.{long_product_result, round_at}
 use Rattle.hm_forms_predicate.specs.Predicates.{half_writes, mask_after, predicate_whole}
 use Rattle.hm_forms_predicate.specs.Blocks.{block_whole}
 use Rattle.hm_forms.specs.Wholes.{form_whole}

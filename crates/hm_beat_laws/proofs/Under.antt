@@ -8,10 +8,10 @@ use Rattle.hm_forms.specs.declared.form.Form.{Form}
 use Rattle.hm_forms.specs.declared.form.Form.TheVariants as form
 use Rattle.hm_forms_elements.specs.Forms.{narrowing_saturates}
 use Rattle.hm_forms_across.specs.Registers.{extreme_under, long_under, sum_under}
-use Rattle.hm_lane_fns.specs.Registers.{saturating}
+use Rattle.hm_lane_fns.specs.Registers.{merges_under, saturating}
 use Rattle.hm_forms_elements.specs.Registers.{constant_result, lanes_result, lanes_saturated, widening_result, narrowing_result}
 use Rattle.hm_forms_elements.specs.Registers.{narrowing_saturated, reversed_result, complex_sum_result, long_product_result}
-use Rattle.hm_forms_elements.specs.Registers.{carry_under, merges_under, offsets_under, shift_under}
+use Rattle.hm_forms_elements.specs.Registers.{carry_under, offsets_under, shift_under}
 use Rattle.hm_rows.specs.Rows.{Registers}
 use Rattle.hm_beat_laws.specs.Exceptions.{from_beat, gives_registers}
 use Rattle.hm_beat_laws.specs.Parts.{belongs, part_of}

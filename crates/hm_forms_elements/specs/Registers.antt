@@ -18,9 +18,9 @@ use Rattle.hm_lane.specs.declared.lanes.Size.TheVariants.{Byte, Half, Word}
 use Rattle.hm_lane.specs.Lanes.{bytes_of, firsts, merged, paired, per_word, spread, unlanes}
 use Rattle.hm_regs.specs.Writes.{write}
 use Rattle.hm_state.specs.State.{Cell, State, Value, at, into}
-use Rattle.hm_beat.specs.Rows.{predicate_at, register_at, word_place, write_register}
+use Rattle.hm_beat.specs.Rows.{predicate_at, register_at, word_place}
 use Rattle.hm_lane_fns.specs.LaneFns.{lane_of, lane_saturates, saturates}
-use Rattle.hm_lane_fns.specs.Registers.{elements, merges, operand_register, saturating}
+use Rattle.hm_lane_fns.specs.Registers.{elements, merges, merges_under, operand_register, saturating}
 use Rattle.hm_lane_fns.specs.Words.{any_both, lane_tests3, lanewise3, size_of, truths}
 use Rattle.hm_forms_elements.specs.declared.lanes.Lanes.{Lanes}
 use Rattle.hm_forms_elements.specs.declared.widening.Widening.{Widening}
@@ -33,10 +33,6 @@ use Rattle.hm_forms_elements.specs.Forms.{offsets_from, product, shift_of, subtr
 -- the four words of a register, the lowest first
 abbrev pub words_at : ℕ → State → List ℕ
 words_at q s = at (word_place q 0) s ∷ at (word_place q 1) s ∷ at (word_place q 2) s ∷ at (word_place q 3) s ∷ []
-
--- a register merges 16 bytes under 16 truth values
-abbrev pub merges_under : List Bool → ℕ → List ℕ → State → List (Cell × Value)
-merges_under ps d result s = write_register d (merged ps (register_at d s) result)
 
 -- LANES
 -- V1 to V5, V7, V10, V11, V13 and V18, as VADD and VDUP: the 16 new bytes, lane by lane (DDI0553, the sections named at these rows' types)

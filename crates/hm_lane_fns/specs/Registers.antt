@@ -17,9 +17,13 @@ advancing ws s = retired (put_all cells (ws ++ advance_half 0 s ++ advance_half 
 abbrev pub saturating : Bool → List (Cell × Value) → State → State
 saturating marked ws s = retired (flagged marked (put_all cells (ws ++ advance_half 0 s ++ advance_half 2 s) s))
 
+-- a register merges 16 bytes under 16 truth values
+abbrev pub merges_under : List Bool → ℕ → List ℕ → State → List (Cell × Value)
+merges_under ps d result s = write_register d (merged ps (register_at d s) result)
+
 -- a register merges 16 bytes under the predicate
 abbrev pub merges : ℕ → List ℕ → State → List (Cell × Value)
-merges d result s = write_register d (merged (predicate_at s) (register_at d s) result)
+merges d result s = merges_under (predicate_at s) d result s
 
 -- the elements of a register
 abbrev pub elements : Size → ℕ → State → List ℕ
