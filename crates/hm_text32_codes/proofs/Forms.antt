@@ -130,16 +130,16 @@ the_mnemonic s f ts mnemonic suffix = ap (λ (p : List ℕ × List ℕ). p.0) (c
 
 -- tokens behind a mnemonic and a suffix: where they are short, and what they give
 pub reads_as : (s f : List ℕ) (ts : List Tok) (o : Operands) → is_mnemonic s ≡ true → is_suffix f ≡ true → AreShort ts → are_apart ts ≡ true → room ts ≤ 78
-    → normal (word (s ++ f) ∷ ts) ≡ word (s ++ f) ∷ ts → read_wide_operands f ts ≡ o → Reads (word (s ++ f) ∷ ts) s o
+    → normal (word (s ++ f) ∷ ts) ≡ word (s ++ f) ∷ ts → read_wide_operands f (word (s ++ f) ∷ ts) ≡ o → Reads (word (s ++ f) ∷ ts) s o
 reads_as s f ts o mnemonic suffix short apart le same gives = record {
   mnemonic = the_mnemonic s f ts mnemonic suffix;
-  gives = ap (λ (p : List ℕ × List ℕ). read_wide_operands p.1 ts) (cut s f mnemonic suffix) ∙ gives;
+  gives = ap (λ (p : List ℕ × List ℕ). read_wide_operands p.1 (word (s ++ f) ∷ ts)) (cut s f mnemonic suffix) ∙ gives;
   prints = is_printed_as s f ts mnemonic suffix short apart le same;
 }
 
 -- and have no minus sign
 pub reads : (s f : List ℕ) (ts : List Tok) (o : Operands) → is_mnemonic s ≡ true → is_suffix f ≡ true → AreShort ts → are_apart ts ≡ true → room ts ≤ 78
-    → has_no_ranges ts ≡ true → read_wide_operands f ts ≡ o → Reads (word (s ++ f) ∷ ts) s o
+    → has_no_ranges ts ≡ true → read_wide_operands f (word (s ++ f) ∷ ts) ≡ o → Reads (word (s ++ f) ∷ ts) s o
 reads s f ts o mnemonic suffix short apart le none gives =
     reads_as s f ts o mnemonic suffix short apart le (normal_same (word (s ++ f) ∷ ts) none) gives
 

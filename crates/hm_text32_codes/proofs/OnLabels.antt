@@ -43,8 +43,9 @@ use Rattle.hm_text32_codes.proofs.Forms.{Suffix, a_register, no_suffix, short, s
 -- TEXTS
 -- tokens behind a mnemonic and a suffix and before a label, which is a word or a number: where they are short, and what they give
 reads_at : (s f : List ℕ) (ts : List Tok) (o : Tok → Operands) → is_mnemonic s ≡ true → is_suffix f ≡ true → AreShort ts → are_apart ts ≡ true
-    → ends_in_mark ts ≡ true → room ts ≤ 68 → has_no_ranges ts ≡ true → ((v : List ℕ) → read_wide_operands f (ts ++ word v ∷ []) ≡ o (word v))
-    → ((n : ℕ) → read_wide_operands f (ts ++ number n ∷ []) ≡ o (number n)) → ReadsAt (word (s ++ f) ∷ ts) s o
+    → ends_in_mark ts ≡ true → room ts ≤ 68 → has_no_ranges ts ≡ true
+    → ((v : List ℕ) → read_wide_operands f (word (s ++ f) ∷ (ts ++ word v ∷ [])) ≡ o (word v))
+    → ((n : ℕ) → read_wide_operands f (word (s ++ f) ∷ (ts ++ number n ∷ [])) ≡ o (number n)) → ReadsAt (word (s ++ f) ∷ ts) s o
 reads_at s f ts o mnemonic suffix short apart ends le none by_word by_number = record {
   mnemonic = λ t. the_mnemonic s f (ts ++ t ∷ []) mnemonic suffix;
   gives = given_by;
@@ -52,8 +53,10 @@ reads_at s f ts o mnemonic suffix short apart ends le none by_word by_number = r
 }
   where
     given_by : (t : Tok) → IsLabel t → operands_in (word (s ++ f) ∷ (ts ++ t ∷ [])) ≡ o t
-    given_by (word v) is = ap (λ (p : List ℕ × List ℕ). read_wide_operands p.1 (ts ++ word v ∷ [])) (cut s f mnemonic suffix) ∙ by_word v
-    given_by (number n) is = ap (λ (p : List ℕ × List ℕ). read_wide_operands p.1 (ts ++ number n ∷ [])) (cut s f mnemonic suffix) ∙ by_number n
+    given_by (word v) is =
+        ap (λ (p : List ℕ × List ℕ). read_wide_operands p.1 (word (s ++ f) ∷ (ts ++ word v ∷ []))) (cut s f mnemonic suffix) ∙ by_word v
+    given_by (number n) is =
+        ap (λ (p : List ℕ × List ℕ). read_wide_operands p.1 (word (s ++ f) ∷ (ts ++ number n ∷ []))) (cut s f mnemonic suffix) ∙ by_number n
     given_by (mark c) is = absurd is
 
 -- a label alone

@@ -45,25 +45,27 @@ wide_word_value w =
 abbrev pub wide_value : Tok → ℕ
 wide_value = value_by wide_word_value
 
--- 1 where `!` stands behind the first token
+-- 1 where `!` stands behind the second token
 abbrev pub second_bang : List Tok → ℕ
 second_bang [] = 0
-second_bang (t ∷ ts) = if is_the_mark marks.Bang (first_of ts) then 1 else 0
+second_bang (t ∷ []) = 0
+second_bang (t ∷ u ∷ ts) = if is_the_mark marks.Bang (first_of ts) then 1 else 0
 
--- what stands behind a mnemonic, as numbers: the element size, five operands, what they are, how an address is written, and the registers in braces
+-- what tokens stand for as numbers, the first being a mnemonic with this suffix: the element size, five operands behind the mnemonic,
+-- what they are, how an address is written, and the registers in braces
 abbrev pub read_wide_operands : List ℕ → List Tok → Operands
 read_wide_operands suffix ts = record {
-  is_bare = length ts == 0;
-  is_single = length ts == 1;
+  is_bare = length ts == 1;
+  is_single = length ts == 2;
   size = size_of suffix;
-  is_vector = is_vector (operand 0 ts);
-  second_is_number = is_number (operand 1 ts);
-  third_is_number = is_number (operand 2 ts);
-  first = wide_value (operand 0 ts);
-  second = wide_value (operand 1 ts);
-  third = wide_value (operand 2 ts);
-  fourth = wide_value (operand 3 ts);
-  fifth = wide_value (operand 4 ts);
+  is_vector = is_vector (operand 1 ts);
+  second_is_number = is_number (operand 2 ts);
+  third_is_number = is_number (operand 3 ts);
+  first = wide_value (operand 1 ts);
+  second = wide_value (operand 2 ts);
+  third = wide_value (operand 3 ts);
+  fourth = wide_value (operand 4 ts);
+  fifth = wide_value (operand 5 ts);
   added = added ts;
   before = before ts;
   back = back_in ts;
@@ -71,11 +73,6 @@ read_wide_operands suffix ts = record {
   registers = bits_of (braced ts);
 }
 
--- the tokens behind the first
-abbrev pub behind_first : List Tok → List Tok
-behind_first [] = []
-behind_first (t ∷ ts) = ts
-
 -- the operands of tokens
 abbrev pub operands_in : List Tok → Operands
-operands_in ts = read_wide_operands (span point (first_word ts)).1 (behind_first ts)
+operands_in ts = read_wide_operands (span point (first_word ts)).1 ts

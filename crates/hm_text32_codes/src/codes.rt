@@ -1,8 +1,7 @@
 //! The candidate code of a text: whether the row of this code has the text is asked later.
 
-ghost use Rattle.std.specs.Prelude.{◌≡◌, map};
+ghost use Rattle.std.specs.Prelude.{map};
 ghost use Rattle.hm_text32_codes.specs.Asked.{IsBareCode, IsCodeAt, IsCodeIn, IsOtherCodeIn};
-ghost use Rattle.hm_text32_codes.specs.Operands.{behind_first};
 ghost use Rattle.hm_tokens.specs.Tokens.{tok};
 
 use crate::data_codes::kind_code;
@@ -24,22 +23,12 @@ fn code_of(mnemonic: &[u8], o: &Operands, pc: u32, a: u32) -> Option<u64>
     code_at_label(mnemonic, o, pc, a)
 }
 
-/// The tokens behind the first.
-fn behind_first<'a, 'b>(tokens: &'b [Token<'a>]) -> &'b [Token<'a>]
-    ensures { map tok result.now ≡ behind_first (map tok tokens.now) }
-{
-    match tokens {
-        [_first, rest @ ..] => rest,
-        [] => tokens,
-    }
-}
-
 /// A number for tokens at `pc`, where a label names `a`: the code of the row with these tokens, where there is one; else any, or None.
 pub fn code_in(tokens: &[Token<'_>], pc: u32, a: u32) -> Option<u64>
     ensures code { IsCodeIn (map tok tokens.now) pc a result }
     ensures other { IsOtherCodeIn (map tok tokens.now) result }
 {
     let (mnemonic, suffix) = span(b'.', first_word(tokens));
-    let o = read_wide_operands(suffix, behind_first(tokens));
+    let o = read_wide_operands(suffix, tokens);
     code_of(mnemonic, &o, pc, a)
 }

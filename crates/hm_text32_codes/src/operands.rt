@@ -15,7 +15,7 @@ use hm_tokens::{Mark, Token, read_condition, read_double, read_register, read_ve
 pub struct Operands {
     /// Whether there are no operands.
     pub is_bare: bool,
-    /// Whether there is one token alone.
+    /// Whether one token alone stands behind the mnemonic.
     pub is_single: bool,
     /// The size of the elements: 0, 1, 2 and 3 are 8, 16, 32 and 64 bits.
     pub size: u32,
@@ -113,13 +113,14 @@ fn wide_value(token: Token<'_>) -> u32
     value_by(wide_word_value, token)
 }
 
-/// 1 where `!` stands behind the first token.
+/// 1 where `!` stands behind the second token.
 fn second_bang(tokens: &[Token<'_>]) -> u32
     ensures { result ≡ second_bang (map tok tokens.now) }
 {
     match tokens {
         [] => 0,
-        [_first, rest @ ..] => {
+        [_] => 0,
+        [_mnemonic, _first, rest @ ..] => {
             if is_the_mark(first_of(rest), Mark::Bang) {
                 1
             } else {
@@ -129,22 +130,22 @@ fn second_bang(tokens: &[Token<'_>]) -> u32
     }
 }
 
-/// What stands behind a mnemonic: its suffix, with the point, and the other tokens.
+/// What tokens stand for, the first being a mnemonic with this suffix, which begins with the point.
 pub fn read_wide_operands(suffix: &[u8], tokens: &[Token<'_>]) -> Operands
     ensures { result ≡ read_wide_operands suffix.now (map tok tokens.now) }
 {
     Operands {
-        is_bare: tokens.is_empty(),
-        is_single: tokens.len() == 1,
+        is_bare: tokens.len() == 1,
+        is_single: tokens.len() == 2,
         size: size_of(suffix),
-        is_vector: is_vector(operand(tokens, 0)),
-        second_is_number: is_number(operand(tokens, 1)),
-        third_is_number: is_number(operand(tokens, 2)),
-        first: wide_value(operand(tokens, 0)),
-        second: wide_value(operand(tokens, 1)),
-        third: wide_value(operand(tokens, 2)),
-        fourth: wide_value(operand(tokens, 3)),
-        fifth: wide_value(operand(tokens, 4)),
+        is_vector: is_vector(operand(tokens, 1)),
+        second_is_number: is_number(operand(tokens, 2)),
+        third_is_number: is_number(operand(tokens, 3)),
+        first: wide_value(operand(tokens, 1)),
+        second: wide_value(operand(tokens, 2)),
+        third: wide_value(operand(tokens, 3)),
+        fourth: wide_value(operand(tokens, 4)),
+        fifth: wide_value(operand(tokens, 5)),
         added: added(tokens),
         before: before(tokens),
         back: back_in(tokens),

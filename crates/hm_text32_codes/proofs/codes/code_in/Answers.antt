@@ -1,8 +1,8 @@
-use Rattle.std.proofs.Common.{List, ℕ, Some, sym, ap, ◌∙◌}
+use Rattle.std.proofs.Common.{List, ℕ, Some, map, sym, ap, ◌∙◌}
 use Rattle.hm_isa.specs.declared.widths.WideRow.{WideRow}
 use Rattle.hm_isa.specs.Code.{wide_code}
 use Rattle.hm_text_base.specs.Spans.{span}
-use Rattle.hm_tokens.specs.Tokens.{point}
+use Rattle.hm_tokens.specs.Tokens.{point, tok}
 use Rattle.hm_text32_codes.specs.Operands.{operands_in, read_wide_operands}
 use Rattle.hm_text32_codes.proofs.Forms.{mnemonic_in}
 use Rattle.hm_text32_codes.proofs.Rows.{other_law, row_law}
@@ -14,7 +14,7 @@ returns c =
     let cut = c.span.ensures.parts ∙ ap (span point) c.first_word.ensures.value in
     let mnemonic = ap (λ (p : List ℕ × List ℕ). p.0) cut in
     let suffix = ap (λ (p : List ℕ × List ℕ). p.1) cut in
-    let operands = c.read_wide_operands-o.ensures ∙ (λ k. read_wide_operands (suffix k) (c.behind_first.ensures k)) in
+    let operands = c.read_wide_operands-o.ensures ∙ ap (λ (f : List ℕ). read_wide_operands f (map tok c.args.tokens.now)) suffix in
     record {
       code =
           λ r t label reaches e. c.code_of.ensures.row r t
