@@ -6,16 +6,16 @@ use Rattle.hm_layout.proofs.Search.{Tried}
 -- the number at a place
 pub record Digit : Type 0 where
   pub position : ℕ
-  pub width : ℕ
+  pub size : ℕ
   pub value : ℕ
 
 abbrev pub digit : ℕ → ℕ → ℕ → Digit
-digit position width value = record { position = position; width = width; value = value }
+digit position size value = record { position = position; size = size; value = value }
 
 -- these stand at their places
 abbrev pub Stand : List Digit → ℕ → Type 0
 Stand [] n = Unit {0}
-Stand (d ∷ ds) n = (n / 2 ^ d.position % 2 ^ d.width ≡ d.value) × Stand ds n
+Stand (d ∷ ds) n = (n / 2 ^ d.position % 2 ^ d.size ≡ d.value) × Stand ds n
 
 abbrev pub Spared : List (List Digit) → ℕ → Type 0
 Spared [] n = Unit {0}
@@ -33,7 +33,7 @@ pub record Has (k : Kind) (n : ℕ) : Type 0 where
 -- whether numbers with these bits have all the digits
 abbrev pub hold_all : List Digit → List Known → Bool
 hold_all [] bs = true
-hold_all (d ∷ ds) bs = holds d.position d.width d.value bs && hold_all ds bs
+hold_all (d ∷ ds) bs = holds d.position d.size d.value bs && hold_all ds bs
 
 abbrev pub hold_some : List (List Digit) → List Known → Bool
 hold_some [] bs = false
@@ -44,7 +44,7 @@ are_apart k l = clash k.bits l.bits || (hold_some k.without l.bits || hold_some 
 
 hold_all-lem : (ds : List Digit) (bs : List Known) (n : ℕ) → hold_all ds bs ≡ true → Matches bs n → Stand ds n
 hold_all-lem [] bs n e m = tt
-hold_all-lem (d ∷ ds) bs n e m = (holds_lem d.position d.width d.value bs n (both_left _ _ e) m, hold_all-lem ds bs n (both_right _ _ e) m)
+hold_all-lem (d ∷ ds) bs n e m = (holds_lem d.position d.size d.value bs n (both_left _ _ e) m, hold_all-lem ds bs n (both_right _ _ e) m)
 
 hold_some-lem : (dss : List (List Digit)) (bs : List Known) (n : ℕ) → hold_some dss bs ≡ true → Matches bs n → Spared dss n → ⊥
 hold_some-lem [] bs n e m s = cc

@@ -27,26 +27,26 @@ abbrev pub spread : (places : List Place) (limit : ℕ) → Placing (Below limit
 spread places limit = record { spread = places; limit = limit; to = λ b. b; one = λ a b e. e; tried = try_below limit }
 
 -- so many bits from this one up, for a number below a limit
-abbrev pub at : (position width limit : ℕ) → Placing (Below limit)
-at position width limit = spread (place position width ∷ []) limit
+abbrev pub at : (position size limit : ℕ) → Placing (Below limit)
+at position size limit = spread (place position size ∷ []) limit
 
 -- the numbers that a place could have from this one up
 abbrev pub values_from : Place → (first count : ℕ) → List (List Digit)
 values_from p first zero = []
-values_from p first (suc count) = (digit p.position p.width first ∷ []) ∷ values_from p (first + 1) count
+values_from p first (suc count) = (digit p.position p.size first ∷ []) ∷ values_from p (first + 1) count
 
 abbrev pub out_of_range : List Place → ℕ → List (List Digit)
 out_of_range [] limit = []
-out_of_range (p ∷ []) limit = values_from p limit (2 ^ p.width - limit)
+out_of_range (p ∷ []) limit = values_from p limit (2 ^ p.size - limit)
 out_of_range (p ∷ q ∷ ps) limit = []
 
-values_spared : (p : Place) (first count x n : ℕ) → n / 2 ^ p.position % 2 ^ p.width ≡ x → x < first → Spared (values_from p first count) n
+values_spared : (p : Place) (first count x n : ℕ) → n / 2 ^ p.position % 2 ^ p.size ≡ x → x < first → Spared (values_from p first count) n
 values_spared p first zero x n e h = tt
 values_spared p first (suc count) x n e h = ((λ s. let f = s.0 in omega arith), values_spared p (first + 1) count x n e (omega arith))
 
 range_spared : (ps : List Place) (limit x n : ℕ) → digits ps n ≡ pieces ps x → x < limit → Spared (out_of_range ps limit) n
 range_spared [] limit x n e h = tt
-range_spared (p ∷ []) limit x n e h = values_spared p limit (2 ^ p.width - limit) x n (ap head_or e) h
+range_spared (p ∷ []) limit x n e h = values_spared p limit (2 ^ p.size - limit) x n (ap head_or e) h
 range_spared (p ∷ q ∷ ps) limit x n e h = tt
 
 -- the fields of a struct
