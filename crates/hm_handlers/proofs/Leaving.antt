@@ -44,10 +44,9 @@ use Rattle.hm_thumb.specs.Steps.{Stepped, step}
 use Rattle.hm_thumb.specs.declared.Way.TheVariants as way
 use Rattle.hm_whole.specs.Whole.{Went, goes_from, scalar_in_machine, seen_in, state_with}
 use Rattle.hm_window.specs.declared.rule.Rule.{Rule}
-use Rattle.hm_window.specs.declared.rule.Rule.TheVariants as rule
 use Rattle.hm_handlers.proofs.Entering.{byte_in, number_in, spsel_in}
 use Rattle.hm_handlers.proofs.Hiding.{begins_with}
-use Rattle.hm_in_order.proofs.Laws.{caused_ok, none_of}
+use Rattle.hm_in_order.proofs.Laws.{caused_ok, no_refusal, none_of}
 use Rattle.hm_handlers.specs.Sound.{FitsInside}
 
 -- AN INSTRUCTION leaves these
@@ -118,10 +117,6 @@ past_first a b = by_first (suc a == 0) refl
     by_first true e = let zero_is : suc a ≡ 0 = eqb-true (suc a) 0 e in absurd (omega arith)
     by_first false e = refl
 
-ready_is : (b : Bool) → cond b None (Some rule.YoungerFault) ≡ None → b ≡ true
-ready_is true h = refl
-ready_is false h = absurd cc
-
 -- no IT block is open, and there is a context
 abbrev Ready : Rest → Type 0
 Ready r = (r.it ≡ 0) × (r.fpca ≡ true)
@@ -131,7 +126,7 @@ ready_same r q e h = subst Ready (sym e) h
 
 ready_younger : (w : Vector) (s : State) → refusal_rule (Some w) s ≡ None → Ready s.rest
 ready_younger w s h =
-    let parts = and_parts s.rest.fpca (is_none (refuse w s)) (ready_is (is_ready w s) h) in
+    let parts = and_parts s.rest.fpca (is_none (refuse w s)) (no_refusal (is_ready w s) h) in
     (free_it w s (none_of (refuse w s) parts.1), parts.0)
 
 -- what a beat of a row leaves

@@ -19,3 +19,4 @@ pub mod Nesting
 pub mod Entering
 pub mod Leaving
 pub mod Soundness
+pub mod TickCounts

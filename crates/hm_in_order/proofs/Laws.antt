@@ -165,9 +165,9 @@ module _ (listing : Listing) (around : Around) where
 pub untainted : (w : WholeStop) → is_tainted_cause (cause_of w) ≡ false
 untainted w = grind arith
 
-broken : (b : Bool) → cond b None (Some rule.YoungerFault) ≡ None → b ≡ true
-broken true e = refl
-broken false e = let no : Some rule.YoungerFault ≡ None = e in absurd cc
+pub no_refusal : (b : Bool) → cond b None (Some rule.YoungerFault) ≡ None → b ≡ true
+no_refusal true e = refl
+no_refusal false e = let no : Some rule.YoungerFault ≡ None = e in absurd cc
 
 -- BEATS, from what they do to the cells to what the machine sees
 pub caused_ok : (r : Result State Stop) (t : State) → caused r ≡ Ok t → r ≡ Ok t
@@ -303,10 +303,6 @@ module _ (x : Around) (thread : x.actor ≡ Thread) where
   no_clash (Some y) e = let no : Some (rule_of_clash y) ≡ None = e in absurd cc
   no_clash None e = refl
 
-  no_refusal : (b : Bool) → cond b None (Some rule.YoungerFault) ≡ None → b ≡ true
-  no_refusal true e = refl
-  no_refusal false e = let no : Some rule.YoungerFault ≡ None = e in absurd cc
-
   in_time : (b : Bool) (r : Option Rule) → cond b (Some rule.Order) r ≡ None → (b ≡ false) × (r ≡ None)
   in_time true r e = let no : Some rule.Order ≡ None = e in absurd cc
   in_time false r e = (refl, e)
@@ -418,5 +414,5 @@ laws listing around thread = record {
   other_live = λ s t h e none clean. other_live around thread listing s t h e none;
   untainted = untainted;
   lawful = lawful around thread listing;
-  faults = λ e. broken (is_tainted_cause e);
+  faults = λ e. no_refusal (is_tainted_cause e);
 }

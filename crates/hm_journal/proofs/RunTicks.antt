@@ -1,41 +1,12 @@
 -- A run begins no more ticks than its schedule has.
-use Rattle.std.proofs.Common.{◌≡◌, ℕ, zero, suc, ◌+◌, ◌≤◌, Bool, true, false, arith, refl, List, [], ◌∷◌, drop, length, Option, Some, None, Result, Ok, Err}
-use Rattle.std.proofs.Common.{cond}
+use Rattle.std.proofs.Common.{ℕ, zero, suc, ◌+◌, ◌≤◌, arith, List, [], ◌∷◌, drop, length, Option, Some, None}
 use Rattle.hm_base.specs.Image.{Segment}
 use Rattle.hm_codes.specs.Listing.{Listing}
-use Rattle.hm_exc.specs.declared.types.EnterErr.{EnterErr}
-use Rattle.hm_handlers.specs.Nested.{Nested, NestedEnd, TickEnd, letters}
-use Rattle.hm_handlers.specs.Runs.{Pointers, Run, after_count, begin, closed, ended, enters, enters_unless, may_enter, next, picks, run, run_out, stops}
-use Rattle.hm_handlers.specs.Runs.{tick_of}
+use Rattle.hm_handlers.proofs.TickCounts.{closed_ticks, ended_ticks}
+use Rattle.hm_handlers.specs.Nested.{letters}
+use Rattle.hm_handlers.specs.Runs.{Run, begin, next, run, run_out, tick_of}
 use Rattle.hm_run.specs.declared.Outcome.{Outcome}
 use Rattle.hm_sched.specs.Schedule.{Sched, TickLine, ticks_of}
-
-closed_ticks : (left : List TickLine) (x : Run) → (closed left x).ticks ≡ x.ticks
-closed_ticks [] x = refl
-closed_ticks (line ∷ left) x = refl
-
-stops_ticks : (t k : ℕ) (younger : Bool) (e : NestedEnd) (entries : List Pointers) → (stops t k younger e entries).ticks ≡ t
-stops_ticks t k younger e entries = grind arith
-
-module _ (s : Sched) where
-  unless_ticks : (e : ℕ) (o : Option EnterErr) (x : Run) → (enters_unless s e o x).ticks ≡ x.ticks
-  unless_ticks e o x = grind arith
-
-  enters_ticks : (o : Option ℕ) (x : Run) → (enters s o x).ticks ≡ x.ticks
-  enters_ticks None x = refl
-  enters_ticks (Some e) x = unless_ticks e _ x
-
-  may_ticks : (b : Bool) (x : Run) → (cond b (enters s (picks x) x) x).ticks ≡ x.ticks
-  may_ticks true x = enters_ticks (picks x) x
-  may_ticks false x = refl
-
-  end_ticks : (b : Bool) (line : TickLine) (o : Outcome) (x : Run) → (cond b (may_enter s (after_count line x)) (record x { outcome = Some o })).ticks ≡ x.ticks
-  end_ticks true line o x = may_ticks s.entries (after_count line x)
-  end_ticks false line o x = refl
-
-  ended_ticks : (line : TickLine) (x : Run) (r : Result Nested TickEnd) → (ended s line x r).ticks ≡ x.ticks + 1
-  ended_ticks line x (Ok m) = end_ticks _ line _ (record { outcome = None; machine = m; ticks = x.ticks + 1; entries = x.entries })
-  ended_ticks line x (Err e) = stops_ticks (x.ticks + 1) e.step e.younger e.end x.entries
 
 module _ (listing : Listing) (s : Sched) where
   tick_ticks : (line : TickLine) (x : Run) (o : Option Outcome) → (tick_of listing s line x o).ticks ≤ x.ticks + 1

@@ -1,60 +1,25 @@
 -- How many ticks a run begins.
-use Rattle.hm_run.specs.Timed.{bounds_of}
-use Rattle.std.proofs.Common.{◌≡◌, ◌⊎◌, inl, inr, ℕ, zero, suc, ◌+◌, ◌≤◌, ◌<◌, arith, ap, refl, sym, ◌∙◌, subst, Bool, true, false, cond, List, [], ◌∷◌, drop}
-use Rattle.std.proofs.Common.{length, length-drop, ⊎_elim, Option, Some, None, Result, Ok, Err, add-zero, add-suc}
+use Rattle.std.proofs.Common.{◌≡◌, ◌⊎◌, inl, inr, ℕ, zero, suc, ◌+◌, ◌≤◌, ◌<◌, arith, ap, refl, sym, ◌∙◌, subst, List, [], ◌∷◌, drop}
+use Rattle.std.proofs.Common.{length, length-drop, ⊎_elim, Option, Some, None, add-zero, add-suc}
 use Rattle.std.proofs.lemmas.Bool.{cases_lt}
 use Rattle.std.specs.Prelude.{IsSome}
 use Rattle.hm_base.specs.Image.{Segment, flash_byte}
 use Rattle.hm_codes.proofs.Exists.{exists}
 use Rattle.hm_codes.specs.Listing.{Listing}
-use Rattle.hm_exc.specs.declared.types.EnterErr.{EnterErr}
-use Rattle.hm_handlers.specs.Nested.{Ended, Nested, NestedEnd, Offends, TickEnd, letters}
-use Rattle.hm_handlers.specs.Runs.{Pointers, Run, after_count, begin, closed, ended, enters, enters_unless, next, picks, run, stops, tick_of}
-use Rattle.hm_exc.specs.Entry.{entry_refusal}
+use Rattle.hm_handlers.proofs.TickCounts.{closed_ticks, ended_ticks}
+use Rattle.hm_handlers.specs.Nested.{letters}
+use Rattle.hm_handlers.specs.Runs.{Run, begin, next, run, tick_of}
 use Rattle.hm_plain.proofs.Ends.{all_ended, next_ended, run_past}
 use Rattle.hm_machine.specs.Shown.{Shown, Shows}
-use Rattle.hm_order.specs.Machine.{Stopped, Broken}
 use Rattle.hm_run.specs.declared.Outcome.{Outcome}
 use Rattle.hm_sched.specs.Schedule.{TickLine, Sched, ticks_of}
-use Rattle.hm_state.specs.State.{regs_of}
-use Rattle.hm_whole.specs.Whole.{seen_in}
-use Rattle.hm_window.specs.Positions.{may_end}
 
 -- A TICK begins one
-stops_count : (t k : ℕ) (younger : Bool) (e : NestedEnd) (es : List Pointers) → (stops t k younger e es).ticks ≡ t
-stops_count t k younger (Ended (Stopped c w) acts) es = refl
-stops_count t k younger (Ended (Broken c r) acts) es = refl
-stops_count t k younger (Offends what c acts) es = refl
-
-unless_count : (s : Sched) (e : ℕ) (why : Option EnterErr) (x : Run) → (enters_unless s e why x).ticks ≡ x.ticks
-unless_count s e None x = refl
-unless_count s e (Some why) x = refl
-
-enters_count : (s : Sched) (e : Option ℕ) (x : Run) → (enters s e x).ticks ≡ x.ticks
-enters_count s None x = refl
-enters_count s (Some e) x = let t = x.machine.config.state in unless_count s e (entry_refusal (bounds_of s) (regs_of t) (seen_in t) e) x
-
-either_count : (b : Bool) (x y : Run) (t : ℕ) → x.ticks ≡ t → y.ticks ≡ t → (cond b x y).ticks ≡ t
-either_count true x y t h k = h
-either_count false x y t h k = k
-
-ended_count : (s : Sched) (line : TickLine) (x : Run) (r : Result Nested TickEnd) → (ended s line x r).ticks ≡ x.ticks + 1
-ended_count s line x (Ok m) =
-    let y : Run = record { outcome = None; machine = m; ticks = x.ticks + 1; entries = x.entries } in
-    let z = after_count line y in
-    either_count (may_end m.config.a m.config.b) _ _ (x.ticks + 1)
-    (either_count s.entries (enters s (picks z) z) z (x.ticks + 1) (enters_count s (picks z) z) refl) refl
-ended_count s line x (Err e) = stops_count (x.ticks + 1) e.step e.younger e.end x.entries
-
-closed_count : (left : List TickLine) (x : Run) → (closed left x).ticks ≡ x.ticks
-closed_count [] x = refl
-closed_count (line ∷ left) x = refl
-
 next_count : (listing : Listing) (s : Sched) (left : List TickLine) (x : Run) → x.outcome ≡ None → 0 < length left → (next listing s left x).ticks ≡ x.ticks + 1
 next_count listing s [] x none some = absurd (omega arith)
 next_count listing s (line ∷ left) x none some =
-    closed_count left (tick_of listing s line x x.outcome)
-    ∙ ap (λ (o : Option Outcome). (tick_of listing s line x o).ticks) none ∙ ended_count s line x (letters listing s 0 line.letters x.machine)
+    closed_ticks left (tick_of listing s line x x.outcome)
+    ∙ ap (λ (o : Option Outcome). (tick_of listing s line x o).ticks) none ∙ ended_ticks s line x (letters listing s 0 line.letters x.machine)
 
 -- A RUN after t ticks has begun t, or it ended before
 abbrev HasBegun : ℕ → Run → Type 0
@@ -87,7 +52,7 @@ module _ (listing : Listing) (image : List Segment) (s : Sched) where
   next_begun t None e (inr h) = let wrong = subst IsSome e h.1 in absurd cc
 
   begun : (t : ℕ) → HasBegun t (run listing image s t)
-  begun zero = inl (closed_count (ticks_of s.lines) (begin image s))
+  begun zero = inl (closed_ticks (ticks_of s.lines) (begin image s))
   begun (suc t) = next_begun t (run listing image s t).outcome refl (begun t)
 
   next_more : (t : ℕ) (o : Option Outcome) → (run listing image s t).outcome ≡ o → (run listing image s t).ticks ≤ (run listing image s (suc t)).ticks

@@ -1,8 +1,9 @@
 -- What a tick came to, of a run.
-use Rattle.std.proofs.Common.{◌≡◌, ℕ, ◌+◌, ◌<◌, arith, ap, refl, sym, ◌∙◌, subst, List, [], ◌∷◌, length, Bool, Option, Some, None, Result, Err}
+use Rattle.std.proofs.Common.{◌≡◌, ℕ, ◌+◌, ◌<◌, arith, ap, sym, ◌∙◌, subst, List, [], ◌∷◌, length, Bool, Option, Some, None, Result, Err}
 use Rattle.hm_codes.specs.Listing.{Listing}
 use Rattle.hm_handlers.specs.Nested.{Nested}
 use Rattle.hm_handlers.proofs.Soundness.{next_sound}
+use Rattle.hm_handlers.proofs.TickCounts.{closed_entries}
 use Rattle.hm_handlers.specs.Sound.{IsSound}
 use Rattle.hm_handlers.specs.Runs.{Pointers, Run, closed, next, tick_of}
 use Rattle.hm_machine.specs.Ticked.{entered_in, Came}
@@ -24,11 +25,6 @@ pub came_over : (o : Outcome) (m : Nested) (t : ℕ) (es : List Pointers) (r : R
 came_over o m t es r e =
     let same : length es ≡ length r.entries = ap (λ (x : Run). length x.entries) e in
     (comes (Some o) m t es r e, omega (arith, same))
-
--- no tick's end changes them
-pub closed_entries : (left : List TickLine) (x : Run) → (closed left x).entries ≡ x.entries
-closed_entries [] x = refl
-closed_entries (line ∷ left) x = refl
 
 -- while it goes on, what always holds does
 pub comes_sound : (listing : Listing) (s : Sched) (left : List TickLine) (x : Run) (m : Nested) (t : ℕ) → (x.outcome ≡ None → IsSound s x.machine)

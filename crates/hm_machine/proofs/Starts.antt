@@ -1,16 +1,16 @@
 -- A machine that is put back to the start of its runs, under another schedule.
-use Rattle.std.proofs.Common.{◌≡◌, ℕ, ◌<◌, arith, ap, refl, sym, ◌∙◌, subst, Bool, cond, ltb, true, false, List, [], ◌∷◌, drop, length, slice_index}
+use Rattle.std.proofs.Common.{◌≡◌, ℕ, ◌<◌, arith, ap, refl, sym, ◌∙◌, subst, Bool, cond, ltb, true, false, List, [], drop, length, slice_index}
 use Rattle.std.proofs.Common.{slice_index_or, Option, Some, None}
 use Rattle.std.proofs.lemmas.Bool.{ltb-true}
 use Rattle.std.proofs.lemmas.List.{get_or_default}
 use Rattle.hm_base.specs.Image.{Segment, first_byte, flash_byte, flash_size, given}
 use Rattle.hm_codes.proofs.Exists.{exists}
 use Rattle.hm_handlers.proofs.Soundness.{start_sound}
+use Rattle.hm_handlers.proofs.TickCounts.{closed_entries, closed_machine, closed_ticks}
 use Rattle.hm_handlers.specs.Nested.{Nested}
-use Rattle.hm_handlers.specs.Runs.{Run, begin, closed, run}
+use Rattle.hm_handlers.specs.Runs.{Run, begin, run}
 use Rattle.hm_handlers.specs.Sound.{IsSound}
 use Rattle.hm_machine.proofs.Loads.{begun, first_left}
-use Rattle.hm_machine.proofs.Runs.{closed_entries}
 use Rattle.hm_machine.specs.Checkpoints.{IsKept, at_checkpoint}
 use Rattle.hm_machine.specs.Machines.{left_in, left_while}
 use Rattle.hm_machine.specs.Shown.{Fixed, Shown, Shows, fixed_of, run_of, run_with}
@@ -22,7 +22,7 @@ use Rattle.hm_regs.specs.declared.Regs.{Regs}
 use Rattle.hm_run.specs.Timed.{bounds_of}
 use Rattle.hm_run.specs.declared.Outcome.{Outcome}
 use Rattle.hm_run.specs.declared.Outcome.TheVariants as outcome
-use Rattle.hm_sched.specs.Schedule.{Sched, TickLine, ticks_of}
+use Rattle.hm_sched.specs.Schedule.{Sched, ticks_of}
 use Rattle.hm_state.specs.Start.{first_cell, start_under}
 use Rattle.hm_state.specs.State.{At, Byte, Cell, State, cell_of, state_of}
 
@@ -69,14 +69,6 @@ module _ (image : List Segment) (regs : Regs) (m : Memory) (old new : Bounds) (o
   }
 
 -- THE RUN at its start
-closed_machine : (left : List TickLine) (x : Run) → (closed left x).machine ≡ x.machine
-closed_machine [] x = refl
-closed_machine (line ∷ left) x = refl
-
-closed_ticks : (left : List TickLine) (x : Run) → (closed left x).ticks ≡ x.ticks
-closed_ticks [] x = refl
-closed_ticks (line ∷ left) x = refl
-
 module _ (image : List Segment) (t : Sched) (x : Start) (from : IsStart image t x) where
   abbrev kept : Shown
   kept = record (at_checkpoint x.checkpoint (fixed_of from.machine) []) { outcome = from.machine.outcome; left = from.machine.left }

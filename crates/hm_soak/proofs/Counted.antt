@@ -1,27 +1,24 @@
 -- Entries that are counted along a run.
-use Rattle.std.proofs.Common.{◌≡◌, ℕ, suc, ◌+◌, ◌^◌, ◌<◌, ◌≤◌, Bool, cond, not, ◌&&◌, List, [], ◌∷◌, length, nat_eq, nat_le, refl, sym, ap, ◌∙◌}
+use Rattle.std.proofs.Common.{◌≡◌, ℕ, suc, ◌+◌, ◌^◌, ◌<◌, ◌≤◌, Bool, cond, not, ◌&&◌, List, length, nat_eq, nat_le, refl, sym, ap, ◌∙◌}
 use Rattle.std.proofs.Common.{subst, arith, Option, Some, None}
 use Rattle.std.proofs.lemmas.Bool.Decides.{nat_tests}
 use Rattle.hm_base.specs.Image.{Segment, flash_byte}
 use Rattle.hm_codes.proofs.Exists.{exists}
 use Rattle.hm_codes.specs.Listing.{IsListing, Listing}
-use Rattle.hm_handlers.specs.Runs.{Run, begin, closed, run}
+use Rattle.hm_handlers.proofs.TickCounts.{closed_ticks}
+use Rattle.hm_handlers.specs.Runs.{Run, begin, run}
 use Rattle.hm_plain.proofs.Ends.{closed_on}
 use Rattle.hm_machine.proofs.Ticks.{shows_end, shows_past}
 use Rattle.hm_machine.specs.Shown.{Shown, Shows, fixed_of, timed_of}
 use Rattle.hm_order.proofs.Results.{decide}
 use Rattle.hm_run.specs.declared.Outcome.{Outcome}
 use Rattle.hm_sched.proofs.Ticks.{length-ticks_of}
-use Rattle.hm_sched.specs.Schedule.{Sched, TickLine, ticks_of}
+use Rattle.hm_sched.specs.Schedule.{Sched, ticks_of}
 use Rattle.hm_soak.specs.Runs.{CountsEntries, IsOver}
 use Rattle.hm_soak_laws.proofs.Schedules.{total_is}
 use Rattle.hm_soak_laws.specs.Schedule.{schedule}
 use Rattle.hm_soak_laws.specs.Summary.{entered, in_thread}
 use Rattle.hm_state.specs.State.{regs_of}
-
-closed_ticks : (left : List TickLine) (x : Run) → (closed left x).ticks ≡ x.ticks
-closed_ticks [] x = refl
-closed_ticks (line ∷ left) x = refl
 
 -- a machine shows its run after the ticks that were begun, in which so many handlers were entered
 pub record CountedTo (image : List Segment) (s : Sched) (m : Shown) (e : ℕ) : Type 0 where
