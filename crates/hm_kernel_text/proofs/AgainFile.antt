@@ -1,5 +1,5 @@
 -- What is written is read: lines, and all of a text.
-use Rattle.std.proofs.Common.{◌≡◌, ◌≢◌, ℕ, suc, ◌+◌, ◌*◌, ◌%◌, ◌^◌, ◌<◌, ◌≤◌, Bool, true, false, eqb, leb, ltb, List, [], ◌∷◌, ◌++◌}
+use Rattle.std.proofs.Common.{◌≡◌, ◌≢◌, ℕ, ◌+◌, ◌*◌, ◌%◌, ◌^◌, ◌<◌, ◌≤◌, Bool, true, false, eqb, leb, ltb, List, [], ◌∷◌, ◌++◌}
 use Rattle.std.proofs.Common.{length, map, Some, Result, Ok, refl, sym, ap, subst, ◌∙◌, arith, inl, inr}
 use Rattle.std.proofs.Common.{append_assoc}
 use Rattle.std.specs.Prelude.{◌⊎◌, codes, decimal, bytes_eq, is_none, not, ◌&&◌, ◌||◌}
@@ -8,7 +8,7 @@ use Rattle.std.specs.List.{AllByRecursion, list_all, list_any}
 use Rattle.std.proofs.lemmas.Bool.{eq-eqb, ne_eqb, le-leb, le-ltb, lt-ltb, and_parts}
 use Rattle.std.proofs.lemmas.Bool.Decides.{nat_tests}
 use Rattle.std.proofs.Math.Bool.{or-true}
-use Rattle.std.proofs.lemmas.List.{append-nil, length_push}
+use Rattle.std.proofs.lemmas.List.{append-nil, length-map, length_push}
 use Rattle.std.proofs.lemmas.Slice.Eq.{bytes_eq-Decides}
 use Rattle.hm_base.specs.Image.{sram_start, sram_size}
 use Rattle.hm_text_base.specs.Reading.{◌>>=◌}
@@ -33,7 +33,7 @@ use Rattle.hm_kernel_text.specs.ReadLine.{an_array, a_set, by_form, form_from, f
 use Rattle.hm_kernel_text.specs.ReadLine.{values_in, with_array, with_set, with_written_array, with_written_set}
 use Rattle.hm_kernel_text.specs.ReadFile.{first_written, kernel_in, length_in, lines_in, on_line, type_in}
 use Rattle.hm_kernel_text.proofs.FoundLaws.{IsLeafy, joined}
-use Rattle.hm_kernel_text.proofs.AgainWords.{IsWord, leaf_word, lacks_all, numeral_again, words_front, goes, tree_again}
+use Rattle.hm_kernel_text.proofs.AgainWords.{IsWord, leaf_word, lacks_all, name_word, numeral_again, words_front, goes, tree_again}
 
 -- ---- numbers
 
@@ -113,9 +113,6 @@ passes t arrays (apply o l r) named over =
 word_lacks : (mark : ℕ) (w : List ℕ) → is_ascii_alphanumeric mark ≡ false → IsWord w → Lacks mark w
 word_lacks mark w fails is = lacks_all mark is_ascii_alphanumeric w fails is.letters
 
-name_leaf : (w : List ℕ) → is_name w ≡ true → IsWord w
-name_leaf w named = leaf_word w (rw named refl)
-
 decimal_word : (n : ℕ) → n < 2 ^ 32 → IsWord (decimal n)
 decimal_word n lt = leaf_word (decimal n) (rw (numeral_again n lt) (or-true (is_name (decimal n))))
 
@@ -156,7 +153,7 @@ array_words_lack : (mark : ℕ) (t : ElementType) (n : ℕ) (front : List Writte
     → mark < 48 → Lacks mark (codes "array") → IsNewArray t n front a
     → AllByRecursion (Lacks mark) (codes "array" ∷ a.name ∷ hex8 a.addr ∷ map decimal a.values)
 array_words_lack mark t n front a fails lt word_lack is =
-    (word_lack, (word_lacks mark a.name fails (name_leaf a.name is.name), (hex8_lacks mark a.addr lt, decimals_lack mark t a.values fails is.small)))
+    (word_lack, (word_lacks mark a.name fails (name_word a.name is.name), (hex8_lacks mark a.addr lt, decimals_lack mark t a.values fails is.small)))
 
 numerals_again : (t : ElementType) (values : List ℕ) → AllByRecursion (λ v. v < modulus t) values → list_all is_numeral (map decimal values) ≡ true
 numerals_again t [] small = refl
@@ -201,12 +198,8 @@ apart_again t n addr (a ∷ more) apart = rw (apart_test a.addr addr (bytes t * 
 placed_again : (t : ElementType) (n a : ℕ) → IsPlaced t n a → is_placed t n a ≡ true
 placed_again t n a is = rw (eq-eqb (a % bytes t) 0 is.aligned, le-leb sram_start a is.low, le-leb (a + bytes t * n) (sram_start + sram_size) is.high) refl
 
-length-decimals : (values : List ℕ) → length (map decimal values) ≡ length values
-length-decimals [] = refl
-length-decimals (v ∷ values) = ap suc (length-decimals values)
-
 few_again : (n : ℕ) (values : List ℕ) → length values ≤ n → leb (length (map decimal values)) n ≡ true
-few_again n values le = rw (length-decimals values) (le-leb (length values) n le)
+few_again n values le = rw (length-map values decimal) (le-leb (length values) n le)
 
 not_full : (n : ℕ) → n < 16 → leb 16 n ≡ false
 not_full n lt = grind (arith, nat_tests)
@@ -237,7 +230,7 @@ set_form_again s named leafy =
     let rest = codes "=" ++ 32 ∷ tree_text s.expr in
     let words : words_of (set_text s) ≡ codes "set" ∷ s.name ∷ codes "=" ∷ words_of (tree_text s.expr) =
     words_front (codes "set") (goes (s.name ++ 32 ∷ rest)) (Lacks_from_test 32 (codes "set") refl)
-    ∙ ap (λ (ws : List (List ℕ)). codes "set" ∷ ws) (words_front s.name (goes rest) (word_lacks 32 s.name refl (name_leaf s.name named))
+    ∙ ap (λ (ws : List (List ℕ)). codes "set" ∷ ws) (words_front s.name (goes rest) (word_lacks 32 s.name refl (name_word s.name named))
     ∙ ap (λ (ws : List (List ℕ)). s.name ∷ ws) (words_front (codes "=") (goes (tree_text s.expr)) (Lacks_from_test 32 (codes "=") refl))) in
     ap form_from words ∙ rw (named, tree_again s.expr leafy) refl
 
@@ -326,7 +319,7 @@ set_lacks t arrays s named is =
     join_lacks (codes "set" ∷ s.name ∷ codes "=" ∷ tree_text s.expr ∷ []) (
       Lacks_from_test 10 (codes "set") refl,
       (
-        word_lacks 10 s.name refl (name_leaf s.name (there_named arrays s.name named is.target)),
+        word_lacks 10 s.name refl (name_word s.name (there_named arrays s.name named is.target)),
         (Lacks_from_test 10 (codes "=") refl, (tree_lacks s.expr (passes t arrays s.expr named is.over).leafy, tt)),
       ),
     )

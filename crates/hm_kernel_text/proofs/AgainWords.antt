@@ -43,7 +43,7 @@ digits_letters (b ∷ w) e =
     let parts = and_parts (is_ascii_digit b) (list_all is_ascii_digit w) e in
     rw (digit_letter b parts.0, digits_letters w parts.1) refl
 
-name_word : (w : List ℕ) → is_name w ≡ true → IsWord w
+pub name_word : (w : List ℕ) → is_name w ≡ true → IsWord w
 unfolding is_name
 name_word [] e = absurd cc
 name_word (b ∷ w) e =

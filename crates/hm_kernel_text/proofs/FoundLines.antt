@@ -1,6 +1,7 @@
 -- What is read is written so: lines.
 use Rattle.std.proofs.Common.{◌≡◌, ◌≢◌, ℕ, zero, suc, ◌+◌, ◌*◌, ◌%◌, ◌<◌, ◌≤◌, Bool, true, false, cond, eqb, leb, ltb, List, [], ◌∷◌, ◌++◌}
 use Rattle.std.proofs.Common.{length, map, Option, Some, None, Result, Ok, Err, refl, sym, ap, subst, ◌∙◌, arith, inl, inr}
+use Rattle.std.proofs.lemmas.List.{length-map}
 use Rattle.std.specs.Prelude.{◌⊎◌, option_map, codes, decimal, bytes_eq, is_some, not, ◌&&◌, ◌||◌}
 use Rattle.std.specs.List.{AllByRecursion, list_all, list_any}
 use Rattle.std.proofs.lemmas.Bool.{eqb-true, eqb-false, ltb-false, or_parts, and_parts, cases_lt, lt-ltb}
@@ -173,10 +174,6 @@ pub record SaysArray (k : Written) (text : List ℕ) (next : Written) : Type 0 w
   pub room : length k.arrays < 16
   pub first : length k.sets ≡ 0
 
-length-decimals : (values : List ℕ) → length (map decimal values) ≡ length values
-length-decimals [] = refl
-length-decimals (v ∷ values) = ap suc (length-decimals values)
-
 array_says : (k : Written) (text name : List ℕ) (addr : ℕ) (words : List (List ℕ)) (values : List ℕ) (next : Written)
     → IsForm text (an_array name addr words) → length k.sets ≡ 0 → length k.arrays < 16 → is_there name k.arrays ≡ false
     → is_placed k.element k.count addr ≡ true
@@ -188,7 +185,7 @@ array_says k text name addr words values next form none room new placed few are 
     name = form.0;
     other = others_found name k.arrays new;
     placed = placed_found k.element k.count addr placed;
-    few = omega (arith, few, ap length are.texts, length-decimals values);
+    few = omega (arith, few, ap length are.texts, length-map values decimal);
     small = are.small;
     apart = apart_found k.element k.count addr k.arrays apart;
   };
