@@ -1,5 +1,5 @@
 -- Loads and stores of elements one behind another.
-use Rattle.std.proofs.Common.{◌≡◌, ◌≢◌, ℕ, zero, suc, ◌+◌, ◌*◌, ◌%◌, ◌^◌, ◌<◌, ◌≤◌, Bool, true, false, cond, not, ◌&&◌, ◌||◌, eqb, ltb, nat_eq, nat_le}
+use Rattle.std.proofs.Common.{◌≡◌, ℕ, zero, suc, ◌+◌, ◌*◌, ◌%◌, ◌^◌, ◌<◌, ◌≤◌, Bool, true, false, cond, not, ◌&&◌, ◌||◌, ltb, nat_eq, nat_le}
 use Rattle.std.proofs.Common.{min, get_or, length, List, [], ◌++◌, refl, sym, ap, ◌∙◌, subst, arith, ltb-true, eq-eqb, append-nil, All, Option, Some, None}
 use Rattle.std.specs.Prelude.{Result, Ok, if◌then◌else◌}
 use Rattle.std.proofs.lemmas.Bool.Decides.{nat_tests}
@@ -39,10 +39,11 @@ use Rattle.hm_kernel_lang.specs.Correct.{Reaches}
 use Rattle.hm_kernel_rows.specs.Shows.{Shows, size_of_type}
 use Rattle.hm_kernel_code.specs.Instructions.{IsMoveRow}
 use Rattle.hm_kernel_rows.specs.Standing.{Stands}
-use Rattle.hm_kernel_rows.proofs.Merging.{predicate_is, tails}
+use Rattle.hm_kernel_rows.proofs.Merging.{not_equal, predicate_is, tails}
 use Rattle.hm_kernel_rows.proofs.Operations.{length_unlanes, some_modulus}
 use Rattle.hm_kernel_rows.proofs.Steps.{reached}
-use Rattle.hm_kernel_rows.proofs.Vectors.{after_write, bytes_unlanes, comes_to, decide, in_loop, no_first, no_second, over_too, size_is}
+use Rattle.hm_order.proofs.Results.{decide}
+use Rattle.hm_kernel_rows.proofs.Vectors.{after_write, bytes_unlanes, comes_to, in_loop, no_first, no_second, over_too, size_is}
 
 -- NO FAULT where an access stands in SRAM and is aligned
 pub le_no : (a b : ℕ) → b < a → nat_le a b ≡ false
@@ -297,9 +298,6 @@ module _ (t : ElementType) (listing : Listing) where
       (λ e k. ap (λ (x : List ℕ). get_or x e 0) (lanes-unlanes (size_of_type t) xs below) ∙ is e k
       ∙ sym (ap (λ (y : Bool). cond y (cond (ltb e v.left) (f e) 0) (v.lane q e)) (eq-eqb q q refl)))
       (λ p e ne. sym (ap (λ (y : Bool). cond y (cond (ltb e v.left) (f e) 0) (v.lane p e)) (not_equal q p (λ i. ne (sym i)))))
-    where
-      not_equal : (x y : ℕ) → x ≢ y → eqb x y ≡ false
-      not_equal x y h = grind (arith, nat_tests)
 
   pub load : (q : ℕ) (v : View) (s : State) → Shows t v s → Stands t listing v.pc (Plain (Load q)) → (q < 8) × (v.size ≡ size_code t) × IsWithin t v
       → Reaches (program.alone listing) (Shows t) 1 s (exec t (Load q) v)

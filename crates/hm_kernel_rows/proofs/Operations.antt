@@ -39,7 +39,8 @@ use Rattle.hm_kernel_code.specs.Instructions.{element_name}
 use Rattle.hm_kernel_rows.specs.Standing.{Stands}
 use Rattle.hm_kernel_rows.proofs.Merging.{AllBytes, length_lanes}
 use Rattle.hm_kernel_rows.proofs.Steps.{reached}
-use Rattle.hm_kernel_rows.proofs.Vectors.{after_merge, bytes_unlanes, comes_to, decide, get_tripled, in_loop, lane_below, size_is, tripled_below}
+use Rattle.hm_order.proofs.Results.{decide}
+use Rattle.hm_kernel_rows.proofs.Vectors.{after_merge, bytes_unlanes, comes_to, get_tripled, in_loop, lane_below, size_is, tripled_below}
 
 abbrev AllBelow : ℕ → List ℕ → Type 0
 AllBelow n [] = Unit {0}

@@ -29,7 +29,8 @@ use Rattle.hm_kernel_rows.specs.Standing.{Stands}
 use Rattle.hm_kernel_rows.proofs.Merging.{length_lanes, tails}
 use Rattle.hm_kernel_rows.proofs.Moves.{inside_of, moved_row, stands_at}
 use Rattle.hm_kernel_lang.proofs.Replacing.{replaced_same}
-use Rattle.hm_kernel_rows.proofs.Vectors.{decide, pc_kept, rest_kept}
+use Rattle.hm_order.proofs.Results.{decide}
+use Rattle.hm_kernel_rows.proofs.Vectors.{pc_kept, rest_kept}
 
 -- ONE NUMBER: its first byte and the rest
 test_first : (c b top : ℕ) → c ≡ b → c < top → (nat_le (c + 1) b && nat_lt b top ≡ false) × (nat_le c b && nat_lt b top ≡ true)
