@@ -1,4 +1,4 @@
--- InFlight of the two instructions in flight takes a step.
+-- Which of the two instructions in flight takes a step.
 use Rattle.std.specs.Prelude.{Result}
 use Rattle.hm_order.specs.Machine.{Core, Config, End, older, younger}
 
