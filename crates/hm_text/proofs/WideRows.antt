@@ -24,7 +24,7 @@ use Rattle.hm_text_rows.specs.Shapes.{braces, r, three, two}
 use Rattle.hm_text_rows.proofs.Words.{below_holds}
 use Rattle.hm_text32_rows.specs.Rows.{and_shifted, constant_tokens, data_tokens, is_unshifted, list_start, moved_tokens, other_tokens}
 use Rattle.hm_text32_rows.specs.Rows.{single_tokens, tokens_of}
-use Rattle.hm_text32_rows.specs.Mnemonics.{barrier_mnemonic, carry_mnemonic, data_mnemonic, move_mnemonic, test_mnemonic, turn_mnemonic, wide}
+use Rattle.hm_text32_rows.specs.Mnemonics.{barrier_mnemonic, carry_mnemonic, data_mnemonic, move_mnemonic, test_mnemonic, shift_mnemonic_with_flags, wide}
 use Rattle.hm_text32_rows.specs.Mnemonics.{wide_list_mnemonic, wide_list_suffix}
 use Rattle.hm_text.specs.Tables.{AreOfRow}
 use Rattle.hm_text.proofs.Formed.{Formed}
@@ -59,10 +59,12 @@ free_move name s = grind arith
 free_carry : (s : ℕ) → IsFree (carry_mnemonic s)
 free_carry s = grind arith
 
-free_turn : (ty s : ℕ) → ty < 4 → s < 2 → IsFree (turn_mnemonic ty s ++ wide)
-free_turn ty zero lt bit = record { is = below_holds (λ j. let w = turn_mnemonic j 0 ++ wide in is_not_narrow w && not (begins_with_v w)) 4 ty refl lt }
-free_turn ty (suc zero) lt bit = record { is = below_holds (λ j. let w = turn_mnemonic j 1 ++ wide in is_not_narrow w && not (begins_with_v w)) 4 ty refl lt }
-free_turn ty (suc (suc s)) lt bit = absurd (omega arith)
+free_shift : (ty s : ℕ) → ty < 4 → s < 2 → IsFree (shift_mnemonic_with_flags ty s ++ wide)
+free_shift ty zero lt bit =
+    record { is = below_holds (λ j. let w = shift_mnemonic_with_flags j 0 ++ wide in is_not_narrow w && not (begins_with_v w)) 4 ty refl lt }
+free_shift ty (suc zero) lt bit =
+    record { is = below_holds (λ j. let w = shift_mnemonic_with_flags j 1 ++ wide in is_not_narrow w && not (begins_with_v w)) 4 ty refl lt }
+free_shift ty (suc (suc s)) lt bit = absurd (omega arith)
 
 free_barrier : (name : BarrierName) → IsFree (barrier_mnemonic name)
 free_barrier name = grind arith
@@ -76,7 +78,7 @@ shifted_named w ts ty k free = chosen (is_by_carry ty k) (line free) (chosen (na
 
 moved_named : (s d m ty k : ℕ) → ty < 4 → s < 2 → IsNamed (moved_tokens s d m ty k)
 moved_named s d m ty k lt bit =
-    chosen (is_by_carry ty k) (line (free_carry s)) (chosen (is_unshifted ty k) (line (free_move data_.Orr s)) (line (free_turn ty s lt bit)))
+    chosen (is_by_carry ty k) (line (free_carry s)) (chosen (is_unshifted ty k) (line (free_move data_.Orr s)) (line (free_shift ty s lt bit)))
 
 single_named : (name : DataName) (s d m ty k : ℕ) → ty < 4 → s < 2 → IsNamed (single_tokens name s d m ty k)
 single_named data_.Orr s d m ty k lt bit = moved_named s d m ty k lt bit

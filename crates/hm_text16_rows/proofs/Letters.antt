@@ -3,12 +3,12 @@ use Rattle.std.proofs.Common.{◌≡◌, ◌≢◌, ℕ, ◌-◌, ◌%◌, ◌<�
 use Rattle.hm_text_rows.proofs.Words.{◌▹◌, at_below}
 use Rattle.hm_text16_rows.specs.Mnemonics.{letters_above}
 
-turned : (mask : ℕ) → mask < 16 → letters_above 0 (16 - mask) ≡ letters_above 1 mask
-turned mask lt =
+letters_negated : (mask : ℕ) → mask < 16 → letters_above 0 (16 - mask) ≡ letters_above 1 mask
+letters_negated mask lt =
     at_below (λ m. letters_above 0 (16 - m) ≡ letters_above 1 m) 16 mask
     (refl ▹ refl ▹ refl ▹ refl ▹ refl ▹ refl ▹ refl ▹ refl ▹ refl ▹ refl ▹ refl ▹ refl ▹ refl ▹ refl ▹ refl ▹ refl ▹ tt) lt
 
 pub odd_letters : (c mask : ℕ) → c % 2 ≢ 0 → mask < 16 → letters_above 0 (16 - mask) ≡ letters_above (c % 2) mask
 odd_letters c mask odd lt =
     let one : c % 2 ≡ 1 = omega (arith, odd) in
-    turned mask lt ∙ ap (λ low. letters_above low mask) (sym one)
+    letters_negated mask lt ∙ ap (λ low. letters_above low mask) (sym one)

@@ -23,7 +23,7 @@ use Rattle.hm_text32_codes.specs.declared.names.DataKind.{DataKind}
 use Rattle.hm_text32_codes.specs.declared.names.DataKind.TheVariants as kind
 use Rattle.hm_text32_codes.specs.declared.operands.Operands.{Operands}
 use Rattle.hm_text32_codes.specs.Asked.{Letters, given, kind_of, kind_operands, letters_t1, letters_t2, mnemonic_of, operands_of}
-use Rattle.hm_text32_codes.specs.Names.{kind_in, kind_mnemonic, turn_of}
+use Rattle.hm_text32_codes.specs.Names.{kind_in, kind_mnemonic, shift_number_of}
 use Rattle.hm_text32_codes.proofs.Immediates.{field_back}
 use Rattle.hm_text32_codes.proofs.Inverses.{five_below}
 
@@ -59,7 +59,7 @@ said_t2 i =
     (λ f. grind (arith, nat_tests, e)) (λ f. absurd cc)
 
 abbrev pub shift_kind : T8 → DataKind
-shift_kind i = kind.Turn (turn_of i.name) i.s.value
+shift_kind i = kind.Shift (shift_number_of i.name) i.s.value
 
 pub told_t8 : (i : T8) → kind_in (wide_shift_mnemonic i.name i.s.value) ≡ Some (shift_kind i)
 told_t8 i = grind arith

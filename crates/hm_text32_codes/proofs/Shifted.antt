@@ -18,7 +18,7 @@ use Rattle.hm_text32_codes.specs.Asked.{Letters, given, kind_of, kind_operands, 
 use Rattle.hm_text32_codes.specs.Names.{kind_mnemonic}
 use Rattle.hm_text32_codes.specs.Operands.{wide_word_value}
 use Rattle.hm_text32_rows.specs.Rows.{and_shifted, is_unshifted, row_tokens, single_tokens}
-use Rattle.hm_text32_rows.specs.Mnemonics.{carry_mnemonic, data_mnemonic, move_mnemonic, shift_mnemonic, test_mnemonic, turn_mnemonic, wide}
+use Rattle.hm_text32_rows.specs.Mnemonics.{carry_mnemonic, data_mnemonic, move_mnemonic, shift_mnemonic, test_mnemonic, shift_mnemonic_with_flags, wide}
 use Rattle.hm_text32_codes.proofs.DataForms.{said_t1, said_t2}
 use Rattle.hm_text32_codes.proofs.Immediates.{expanded, expanded_small}
 use Rattle.hm_text32_codes.proofs.Forms.{Operand, Reads, Suffix, a_kind, a_register, bare, kind_given, no_suffix, reads_four, reads_one_constant, reads_three}
@@ -93,8 +93,8 @@ single_reads data_.Orr s n d m ty k mnemonic hd hm ht hk =
                 rw (p.0, p.1)
                 (reads_two (move_mnemonic data_.Orr s) wide _ _ _ _ _ _ _ (rw (e, f) at mnemonic) suffix_wide (a_register d hd) (a_register m hm))
             | inr f ↦ rw (e, f, e)
-                (reads_two_constant (turn_mnemonic ty s) wide _ _ _ _ _ _ _ _ (rw (e, f) at mnemonic) suffix_wide (a_register d hd) (a_register m hm)
-                (number_small ty k hk))
+                (reads_two_constant (shift_mnemonic_with_flags ty s) wide _ _ _ _ _ _ _ _ (rw (e, f) at mnemonic) suffix_wide (a_register d hd)
+                (a_register m hm) (number_small ty k hk))
           ]
     ]
 single_reads name s n d m ty k mnemonic hd hm ht hk = two_reads (move_mnemonic name s) d m ty k mnemonic hd hm ht hk

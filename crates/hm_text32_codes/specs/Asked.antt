@@ -80,7 +80,7 @@ letters_t2 i = letters i.name i.s.value i.n.value i.d.value false i.m.value i.ty
 
 -- T2: what the mnemonic of MOV, of LSL, LSR, ASR and ROR, of RRX, and of MVN says (DDI0553, "Data-processing (shifted register)")
 abbrev pub single_kind : DataName → ℕ → ℕ → ℕ → DataKind
-single_kind data_.Orr s ty k = if is_by_carry ty k then kind.Carry s else if is_unshifted ty k then kind.Move data_.Orr s else kind.Turn ty s
+single_kind data_.Orr s ty k = if is_by_carry ty k then kind.Carry s else if is_unshifted ty k then kind.Move data_.Orr s else kind.Shift ty s
 single_kind name s ty k = kind.Move name s
 
 -- T1 and T2: what the mnemonic of AND to RSB says, by the registers that stand for none
@@ -210,7 +210,7 @@ kind_operands (kind.Three name s) l = given_sized 0 false l.is_number l.d l.n l.
 kind_operands (kind.Test name) l = given_sized 0 l.is_number false l.n l.last l.ty (number_read l.ty l.k) 0
 kind_operands (kind.Move name s) l = given_sized 0 l.is_number false l.d l.last l.ty (number_read l.ty l.k) 0
 kind_operands (kind.Carry s) l = given l.d l.last 0 0 0
-kind_operands (kind.Turn ty s) l = third_numbered l.d l.last (number_read l.ty l.k) 0 0
+kind_operands (kind.Shift ty s) l = third_numbered l.d l.last (number_read l.ty l.k) 0 0
 
 -- T7: the operands of BFI and of BFC, at the bit x (DDI0553, "BFI" and "BFC")
 abbrev pub insert_operands : ℕ → ℕ → ℕ → ℕ → Operands

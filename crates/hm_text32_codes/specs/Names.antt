@@ -38,7 +38,7 @@ use Rattle.hm_isa.specs.declared.wide.WideListName.TheVariants as wide_list
 use Rattle.hm_text_rows.specs.Names.{named, named_with_bit}
 use Rattle.hm_text32_codes.specs.declared.names.DataKind.{DataKind}
 use Rattle.hm_text32_codes.specs.declared.names.DataKind.TheVariants as kind
-use Rattle.hm_text32_rows.specs.Mnemonics.{carry_mnemonic, data_mnemonic, move_mnemonic, test_mnemonic, turn_mnemonic}
+use Rattle.hm_text32_rows.specs.Mnemonics.{carry_mnemonic, data_mnemonic, move_mnemonic, test_mnemonic, shift_mnemonic_with_flags}
 
 -- T1 and T2: AND, BIC, ORR, ORN, EOR, ADD, ADC, SBC, SUB and RSB
 abbrev pub data_names : List DataName
@@ -116,7 +116,7 @@ kind_mnemonic (kind.Three name s) = data_mnemonic name s
 kind_mnemonic (kind.Test name) = test_mnemonic name
 kind_mnemonic (kind.Move name s) = move_mnemonic name s
 kind_mnemonic (kind.Carry s) = carry_mnemonic s
-kind_mnemonic (kind.Turn ty s) = turn_mnemonic ty s
+kind_mnemonic (kind.Shift ty s) = shift_mnemonic_with_flags ty s
 
 -- T1 and T2: TST, TEQ, CMN and CMP, which have no register for the result, and MOV and MVN, which have no first register
 abbrev pub move_kinds : List DataKind
@@ -125,20 +125,20 @@ move_kinds =
     ∷ kind.Move data_.Orr 0 ∷ kind.Move data_.Orr 1 ∷ kind.Move data_.Orn 0 ∷ kind.Move data_.Orn 1 ∷ []
 
 -- T2 and T8: RRX, and LSL, LSR, ASR and ROR
-abbrev pub turn_kinds : List DataKind
-turn_kinds =
-    kind.Carry 0 ∷ kind.Carry 1 ∷ kind.Turn 0 0 ∷ kind.Turn 0 1 ∷ kind.Turn 1 0 ∷ kind.Turn 1 1 ∷ kind.Turn 2 0 ∷ kind.Turn 2 1
-    ∷ kind.Turn 3 0 ∷ kind.Turn 3 1 ∷ []
+abbrev pub kinds_of_shifts : List DataKind
+kinds_of_shifts =
+    kind.Carry 0 ∷ kind.Carry 1 ∷ kind.Shift 0 0 ∷ kind.Shift 0 1 ∷ kind.Shift 1 0 ∷ kind.Shift 1 1 ∷ kind.Shift 2 0 ∷ kind.Shift 2 1
+    ∷ kind.Shift 3 0 ∷ kind.Shift 3 1 ∷ []
 
 -- T1, T2 and T8: what a mnemonic says (DDI0553, "Data-processing (modified immediate)" and "Data-processing (shifted register)")
 abbrev pub kind_in : List ℕ → Option DataKind
 kind_in s =
     option_or (option_map (λ p. kind.Three p.0 p.1) (named_with_bit data_mnemonic data_names s))
-    (option_or (named kind_mnemonic move_kinds s) (named kind_mnemonic turn_kinds s))
+    (option_or (named kind_mnemonic move_kinds s) (named kind_mnemonic kinds_of_shifts s))
 
 -- T8: the number of a shift (DDI0553, "LSL (register)", "LSR (register)", "ASR (register)" and "ROR (register)")
-abbrev pub turn_of : WideShiftName → ℕ
-turn_of wide_shift.Lsl = 0
-turn_of wide_shift.Lsr = 1
-turn_of wide_shift.Asr = 2
-turn_of wide_shift.Ror = 3
+abbrev pub shift_number_of : WideShiftName → ℕ
+shift_number_of wide_shift.Lsl = 0
+shift_number_of wide_shift.Lsr = 1
+shift_number_of wide_shift.Asr = 2
+shift_number_of wide_shift.Ror = 3

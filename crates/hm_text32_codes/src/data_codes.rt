@@ -10,7 +10,7 @@ ghost use Rattle.hm_isa.specs.DataCodes.{code_t1, code_t2, data_operation};
 ghost use Rattle.hm_isa.specs.Standing.{◌↑◌};
 ghost use Rattle.hm_text32_codes.specs.declared.names.DataKind.TheVariants as kinds;
 ghost use Rattle.hm_text32_codes.specs.Asked.{IsConstantCode, IsShiftedCode, given, kind_of, kind_operands, letters_t1, letters_t2};
-ghost use Rattle.hm_text32_codes.specs.Names.{turn_of};
+ghost use Rattle.hm_text32_codes.specs.Names.{shift_number_of};
 
 use crate::constants::constant_field;
 use crate::fields::{of_three, with_five, with_twelve};
@@ -70,7 +70,7 @@ fn code_two(base: u64, n: u32, d: u32, o: &Operands) -> u64
 }
 
 /// Rows T2 that are shifts of this type by k.
-fn code_turn(ty: u32, s: u32, o: &Operands, k: u32) -> u64
+fn code_shift(ty: u32, s: u32, o: &Operands, k: u32) -> u64
     ensures { IsShiftedCode (0xea000000 + 2 ↑ 21 + s ↑ 20) 15 o.now.first o.now.second ty k result }
 {
     shifted_code(data_base(DataName::Orr, s), 15, o.first, o.second, ty, k)
@@ -78,7 +78,7 @@ fn code_turn(ty: u32, s: u32, o: &Operands, k: u32) -> u64
 
 /// The name of a row T8, by the number of the shift.
 fn wide_shift_name(ty: u32) -> WideShiftName
-    ensures { (name : WideShiftName) → turn_of name ≡ ty → result ≡ name }
+    ensures { (name : WideShiftName) → shift_number_of name ≡ ty → result ≡ name }
 {
     match ty {
         0 => WideShiftName::Lsl,
@@ -90,7 +90,7 @@ fn wide_shift_name(ty: u32) -> WideShiftName
 
 /// Rows T8.
 fn code_wide_shift(ty: u32, s: u32, o: &Operands) -> u64
-    ensures { (i : T8) → turn_of i.name ≡ ty → i.s.value ≡ s → o.now ≡ given i.d.value i.n.value i.m.value 0 0 → result ≡ code_t8 i }
+    ensures { (i : T8) → shift_number_of i.name ≡ ty → i.s.value ≡ s → o.now ≡ given i.d.value i.n.value i.m.value 0 0 → result ≡ code_t8 i }
 {
     let base = u64::from(base_of_wide_shift(wide_shift_name(ty))) + (u64::from(s) << 20);
     of_three(base, o.second, 0, o.first, o.third)
@@ -100,14 +100,14 @@ fn code_wide_shift(ty: u32, s: u32, o: &Operands) -> u64
 pub fn kind_code(kind: DataKind, o: &Operands) -> u64
     ensures t1 { (i : T1) → kind ≡ kind_of (letters_t1 i) → o.now ≡ kind_operands (kind_of (letters_t1 i)) (letters_t1 i) → result ≡ code_t1 i }
     ensures t2 { (i : T2) → kind ≡ kind_of (letters_t2 i) → o.now ≡ kind_operands (kind_of (letters_t2 i)) (letters_t2 i) → result ≡ code_t2 i }
-    ensures t8 { (i : T8) → kind ≡ kinds.Turn (turn_of i.name) i.s.value → o.now ≡ given i.d.value i.n.value i.m.value 0 0 → result ≡ code_t8 i }
+    ensures t8 { (i : T8) → kind ≡ kinds.Shift (shift_number_of i.name) i.s.value → o.now ≡ given i.d.value i.n.value i.m.value 0 0 → result ≡ code_t8 i }
 {
     match kind {
         DataKind::Three(name, s) => code_three(data_base(name, s), o),
         DataKind::Test(name) => code_two(data_base(name, 1), o.first, 15, o),
         DataKind::Move(name, s) => code_two(data_base(name, s), 15, o.first, o),
-        DataKind::Carry(s) => code_turn(3, s, o, 0),
-        DataKind::Turn(ty, s) if o.third_is_number => code_turn(ty, s, o, o.third),
-        DataKind::Turn(ty, s) => code_wide_shift(ty, s, o),
+        DataKind::Carry(s) => code_shift(3, s, o, 0),
+        DataKind::Shift(ty, s) if o.third_is_number => code_shift(ty, s, o, o.third),
+        DataKind::Shift(ty, s) => code_wide_shift(ty, s, o),
     }
 }

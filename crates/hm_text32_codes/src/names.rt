@@ -9,7 +9,7 @@ ghost use Rattle.hm_text32_rows.specs.Mnemonics.{wide_list_mnemonic, wide_sum_mn
 ghost use Rattle.hm_text32_codes.specs.Names.{accumulate_names, barrier_names, bits_names, data_names, extract_names, half_names};
 ghost use Rattle.hm_text32_codes.specs.Names.{kind_in, kind_mnemonic, long_names, move_kinds};
 ghost use Rattle.hm_text32_codes.specs.Names.{operation_names, pair_names, saturate_names, select_names};
-ghost use Rattle.hm_text32_codes.specs.Names.{stack_names, table_names, turn_kinds, wide_branch_names, wide_list_names};
+ghost use Rattle.hm_text32_codes.specs.Names.{stack_names, table_names, kinds_of_shifts, wide_branch_names, wide_list_names};
 
 use hm_isa::{
     AccumulateName, BarrierName, BitsName, DataName, ExtractName, HalfName, LongProductName,
@@ -30,7 +30,7 @@ pub enum DataKind {
     /// A shift through the carry.
     Carry(u32),
     /// A shift by a constant or by a register: 0 to 3 are `lsl`, `lsr`, `asr` and `ror`.
-    Turn(u32, u32),
+    Shift(u32, u32),
 }
 
 /// The name of a row T1 or T2 of two registers or more, and 1 where the mnemonic ends in `s`.
@@ -80,20 +80,20 @@ fn move_kind(mnemonic: &[u8]) -> Option<DataKind>
 }
 
 /// What the mnemonic of a shift says.
-fn turn_kind(mnemonic: &[u8]) -> Option<DataKind>
-    ensures { result ≡ named kind_mnemonic turn_kinds mnemonic.now }
+fn kind_of_shift(mnemonic: &[u8]) -> Option<DataKind>
+    ensures { result ≡ named kind_mnemonic kinds_of_shifts mnemonic.now }
 {
     let kinds = &[
         (DataKind::Carry(0), "rrx"),
         (DataKind::Carry(1), "rrxs"),
-        (DataKind::Turn(0, 0), "lsl"),
-        (DataKind::Turn(0, 1), "lsls"),
-        (DataKind::Turn(1, 0), "lsr"),
-        (DataKind::Turn(1, 1), "lsrs"),
-        (DataKind::Turn(2, 0), "asr"),
-        (DataKind::Turn(2, 1), "asrs"),
-        (DataKind::Turn(3, 0), "ror"),
-        (DataKind::Turn(3, 1), "rors"),
+        (DataKind::Shift(0, 0), "lsl"),
+        (DataKind::Shift(0, 1), "lsls"),
+        (DataKind::Shift(1, 0), "lsr"),
+        (DataKind::Shift(1, 1), "lsrs"),
+        (DataKind::Shift(2, 0), "asr"),
+        (DataKind::Shift(2, 1), "asrs"),
+        (DataKind::Shift(3, 0), "ror"),
+        (DataKind::Shift(3, 1), "rors"),
     ];
     named(kinds, mnemonic)
 }
@@ -108,7 +108,7 @@ pub fn data_kind(mnemonic: &[u8]) -> Option<DataKind>
     if let Some(kind) = move_kind(mnemonic) {
         return Some(kind);
     }
-    turn_kind(mnemonic)
+    kind_of_shift(mnemonic)
 }
 
 /// The name of a row T3.

@@ -80,8 +80,8 @@ abbrev pub shift_mnemonic : ℕ → List ℕ
 shift_mnemonic ty = get_or (codes "lsl" ∷ codes "lsr" ∷ codes "asr" ∷ codes "ror" ∷ []) ty []
 
 -- T2: the mnemonic of LSL, LSR, ASR and ROR with a constant, with s where the flags tell the result (DDI0553, "Data-processing (shifted register)")
-abbrev pub turn_mnemonic : ℕ → ℕ → List ℕ
-turn_mnemonic ty s = shift_mnemonic ty ++ either s [] (codes "s")
+abbrev pub shift_mnemonic_with_flags : ℕ → ℕ → List ℕ
+shift_mnemonic_with_flags ty s = shift_mnemonic ty ++ either s [] (codes "s")
 
 -- T2: RRX, or RRXS where the flags tell the result (DDI0553, "Data-processing (shifted register)")
 abbrev pub carry_mnemonic : ℕ → List ℕ
@@ -110,10 +110,10 @@ extract_mnemonic extract.Ubfx = codes "ubfx"
 -- T8: the mnemonic of each name, LSL, LSR, ASR and ROR, with s where the flags tell the result
 -- (DDI0553, "LSL (register)", "LSR (register)", "ASR (register)" and "ROR (register)")
 abbrev pub wide_shift_mnemonic : WideShiftName → ℕ → List ℕ
-wide_shift_mnemonic wide_shift.Lsl s = turn_mnemonic 0 s
-wide_shift_mnemonic wide_shift.Lsr s = turn_mnemonic 1 s
-wide_shift_mnemonic wide_shift.Asr s = turn_mnemonic 2 s
-wide_shift_mnemonic wide_shift.Ror s = turn_mnemonic 3 s
+wide_shift_mnemonic wide_shift.Lsl s = shift_mnemonic_with_flags 0 s
+wide_shift_mnemonic wide_shift.Lsr s = shift_mnemonic_with_flags 1 s
+wide_shift_mnemonic wide_shift.Asr s = shift_mnemonic_with_flags 2 s
+wide_shift_mnemonic wide_shift.Ror s = shift_mnemonic_with_flags 3 s
 
 -- T10: the mnemonic of each name, REV, REV16, RBIT, REVSH and CLZ (DDI0553, "REV", "REV16", "RBIT", "REVSH" and "CLZ")
 abbrev pub bits_mnemonic : BitsName → List ℕ

@@ -31,7 +31,7 @@ use Rattle.hm_isa.specs.declared.system.LaneMoveName.{LaneMoveName}
 use Rattle.hm_isa.specs.declared.system.LaneMoveName.TheVariants as lane
 use Rattle.hm_tokens.specs.Names.{condition_name, double_name, register_name}
 use Rattle.hm_tokens.specs.Tokens.{Tok, word, number, close_brace, close_bracket, comma, minus_mark, open_brace, open_bracket}
-use Rattle.hm_text_rows.specs.Shapes.{and_constant, and_operand, and_shift, and_turn, back, braces, constant, four, indexed, inside, one, or_zero, q, r}
+use Rattle.hm_text_rows.specs.Shapes.{and_constant, and_operand, and_shift, and_any_shift, back, braces, constant, four, indexed, inside, one, or_zero, q, r}
 use Rattle.hm_text_rows.specs.Shapes.{scaled, three, two}
 use Rattle.hm_isa.specs.Words.{expand_imm_c, imm12, imm16, imm5, is_by_carry, shift_number}
 use Rattle.hm_text_rows.specs.Mnemonics.{access_mnemonic, branch_mnemonic, element_suffix, extend_mnemonic}
@@ -39,7 +39,7 @@ use Rattle.hm_text32_rows.specs.Mnemonics.{accumulate_mnemonic, barrier_mnemonic
 use Rattle.hm_text32_rows.specs.Mnemonics.{extract_mnemonic, half_mnemonic, long_mnemonic, move_mnemonic, operation_mnemonic, pair_mnemonic}
 use Rattle.hm_text32_rows.specs.Mnemonics.{read_name, saturate_shift}
 use Rattle.hm_text32_rows.specs.Mnemonics.{saturate_mnemonic, select_mnemonic, shift_mnemonic, stack_mnemonic, table_mnemonic, test_mnemonic}
-use Rattle.hm_text32_rows.specs.Mnemonics.{turn_mnemonic, wide}
+use Rattle.hm_text32_rows.specs.Mnemonics.{shift_mnemonic_with_flags, wide}
 use Rattle.hm_text32_rows.specs.Mnemonics.{wide_branch_mnemonic, wide_branch_suffix, wide_list_mnemonic}
 use Rattle.hm_text32_rows.specs.Mnemonics.{wide_list_suffix, wide_shift_mnemonic, wide_sum_mnemonic, written_name}
 
@@ -70,7 +70,7 @@ abbrev pub moved_tokens : ℕ → ℕ → ℕ → ℕ → ℕ → List Tok
 moved_tokens s d m ty k =
     if is_by_carry ty k then two (carry_mnemonic s) (r d) (r m)
     else if is_unshifted ty k then two (move_mnemonic data_.Orr s ++ wide) (r d) (r m)
-    else and_constant (two (turn_mnemonic ty s ++ wide) (r d) (r m)) (shift_number ty k)
+    else and_constant (two (shift_mnemonic_with_flags ty s ++ wide) (r d) (r m)) (shift_number ty k)
 
 -- T2: the tokens of the operations with no first register: MOV and the shifts, and MVN (DDI0553, "Data-processing (shifted register)")
 abbrev pub single_tokens : DataName → ℕ → ℕ → ℕ → ℕ → ℕ → List Tok
@@ -93,7 +93,7 @@ saturated_bits saturate.Usat s = s
 -- T5: the tokens of SSAT and USAT, whose shift is written by 0 too (DDI0553, "SSAT" and "USAT")
 abbrev pub saturate_tokens : SaturateRow → List Tok
 saturate_tokens i =
-    and_turn (and_operand (and_constant (one (saturate_mnemonic i.name) (r i.d.value)) (saturated_bits i.name i.s.value)) (r i.n.value))
+    and_any_shift (and_operand (and_constant (one (saturate_mnemonic i.name) (r i.d.value)) (saturated_bits i.name i.s.value)) (r i.n.value))
     (saturate_shift i.sh.value) (imm5 i.i3.value i.i2.value)
 
 -- T7: the tokens of BFI, `rd,rn,#lsb,#width`, and of BFC, `rd,#lsb,#width`, which puts zeros in (DDI0553, "BFI" and "BFC")

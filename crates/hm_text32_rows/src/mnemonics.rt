@@ -7,7 +7,7 @@ ghost use Rattle.hm_text32_rows.specs.Mnemonics.{extract_mnemonic, half_mnemonic
 ghost use Rattle.hm_text32_rows.specs.Mnemonics.{operation_mnemonic};
 ghost use Rattle.hm_text32_rows.specs.Mnemonics.{pair_mnemonic, read_name};
 ghost use Rattle.hm_text32_rows.specs.Mnemonics.{saturate_shift, saturate_mnemonic, select_mnemonic, shift_mnemonic, stack_mnemonic, test_mnemonic};
-ghost use Rattle.hm_text32_rows.specs.Mnemonics.{turn_mnemonic};
+ghost use Rattle.hm_text32_rows.specs.Mnemonics.{shift_mnemonic_with_flags};
 ghost use Rattle.hm_text32_rows.specs.Mnemonics.{wide_branch_mnemonic, wide_branch_suffix};
 ghost use Rattle.hm_text32_rows.specs.Mnemonics.{wide_list_mnemonic, wide_list_suffix, wide_shift_mnemonic, wide_sum_mnemonic, written_name};
 
@@ -160,10 +160,10 @@ pub fn wide_shift_mnemonic(name: WideShiftName, s: Bit) -> &'static str
     ensures { result.now ≡ wide_shift_mnemonic name s.value }
 {
     match name {
-        WideShiftName::Lsl => turn_mnemonic(Below::new(0), s),
-        WideShiftName::Lsr => turn_mnemonic(Below::new(1), s),
-        WideShiftName::Asr => turn_mnemonic(Below::new(2), s),
-        WideShiftName::Ror => turn_mnemonic(Below::new(3), s),
+        WideShiftName::Lsl => shift_mnemonic_with_flags(Below::new(0), s),
+        WideShiftName::Lsr => shift_mnemonic_with_flags(Below::new(1), s),
+        WideShiftName::Asr => shift_mnemonic_with_flags(Below::new(2), s),
+        WideShiftName::Ror => shift_mnemonic_with_flags(Below::new(3), s),
     }
 }
 
@@ -267,8 +267,8 @@ pub fn shift_mnemonic(ty: Below<4>) -> &'static str
 }
 
 /// A shift as a mnemonic, with s where the flags tell the result.
-pub fn turn_mnemonic(ty: Below<4>, s: Bit) -> &'static str
-    ensures { result.now ≡ turn_mnemonic ty.value s.value }
+pub fn shift_mnemonic_with_flags(ty: Below<4>, s: Bit) -> &'static str
+    ensures { result.now ≡ shift_mnemonic_with_flags ty.value s.value }
 {
     if s.get() == 0 {
         return shift_mnemonic(ty);

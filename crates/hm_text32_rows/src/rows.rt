@@ -13,7 +13,7 @@ use crate::mnemonics::{
     accumulate_mnemonic, barrier_mnemonic, bits_mnemonic, bits_suffix, carry_mnemonic,
     data_mnemonic, extract_mnemonic, half_mnemonic, long_mnemonic, move_mnemonic,
     operation_mnemonic, read_name, saturate_mnemonic, saturate_shift, select_mnemonic,
-    shift_mnemonic, stack_mnemonic, test_mnemonic, turn_mnemonic, wide_branch_mnemonic,
+    shift_mnemonic, shift_mnemonic_with_flags, stack_mnemonic, test_mnemonic, wide_branch_mnemonic,
     wide_branch_suffix, wide_shift_mnemonic, wide_sum_mnemonic, written_name,
 };
 use hm_isa::words::{expand_imm_c, imm5, imm12, imm16, is_by_carry, shift_number};
@@ -23,8 +23,8 @@ use hm_isa::{
     T21, T22, T23, TableName, WideRow,
 };
 use hm_text_rows::{
-    alone, and, and_constant, and_shift, and_turn, element_suffix, extend_mnemonic, first, four,
-    marked, one, or_zero, q, r, three, two,
+    alone, and, and_any_shift, and_constant, and_shift, element_suffix, extend_mnemonic, first,
+    four, marked, one, or_zero, q, r, three, two,
 };
 use hm_tokens::{InstrText, Mark, Part, condition_name, double_name};
 
@@ -64,7 +64,12 @@ fn moved_text(s: Bit, d: Register, m: Register, ty: Below<4>, k: u32) -> InstrTe
         let mnemonic = move_mnemonic(DataName::Orr, s);
         return two(mnemonic, ".w", r(d.get()), r(m.get()));
     }
-    let text = two(turn_mnemonic(ty, s), ".w", r(d.get()), r(m.get()));
+    let text = two(
+        shift_mnemonic_with_flags(ty, s),
+        ".w",
+        r(d.get()),
+        r(m.get()),
+    );
     and_constant(text, shift_number(ty, k))
 }
 
@@ -157,7 +162,7 @@ fn text_t5(i: &T5) -> InstrText
         saturated_bits(i.name, i.s),
     );
     let kind = saturate_shift(i.sh);
-    and_turn(and(text, r(i.n.get())), kind, imm5(i.i3, i.i2))
+    and_any_shift(and(text, r(i.n.get())), kind, imm5(i.i3, i.i2))
 }
 
 /// The text of a row T6.
@@ -380,7 +385,7 @@ fn text_t17(i: &T17) -> InstrText
             marked(text, Mark::CloseBracket)
         }
         TableName::Tbh => {
-            let text = and_turn(base_and_index("tbh", i.n, i.m), "lsl", 1);
+            let text = and_any_shift(base_and_index("tbh", i.n, i.m), "lsl", 1);
             marked(text, Mark::CloseBracket)
         }
     }

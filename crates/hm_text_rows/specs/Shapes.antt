@@ -51,12 +51,12 @@ abbrev pub and_constant : List Tok → ℕ → List Tok
 and_constant front n = front ++ comma ∷ constant n
 
 -- and a shift, as `lsl #n`, by 0 too
-abbrev pub and_turn : List Tok → List ℕ → ℕ → List Tok
-and_turn front kind n = front ++ comma ∷ word kind ∷ constant n
+abbrev pub and_any_shift : List Tok → List ℕ → ℕ → List Tok
+and_any_shift front kind n = front ++ comma ∷ word kind ∷ constant n
 
 -- and a shift, where it is not by 0
 abbrev pub and_shift : List Tok → List ℕ → ℕ → List Tok
-and_shift front kind n = cond (nat_eq n 0) front (and_turn front kind n)
+and_shift front kind n = cond (nat_eq n 0) front (and_any_shift front kind n)
 
 -- ADDRESSES
 -- a minus sign, where the offset is taken away

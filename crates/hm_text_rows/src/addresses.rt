@@ -5,7 +5,7 @@ ghost use Rattle.hm_tokens.specs.Tokens.{comma, open_bracket};
 ghost use Rattle.hm_text_rows.specs.Shapes.{back, indexed, inside, offset, outside, scaled};
 ghost use Rattle.hm_tokens.specs.Texts.{part_token, text_tokens};
 
-use crate::shapes::{and, and_turn, marked, r};
+use crate::shapes::{and, and_any_shift, marked, r};
 use hm_isa::Bit;
 use hm_tokens::{InstrText, Mark, Part};
 
@@ -98,6 +98,6 @@ pub fn scaled(text: InstrText, n: u32, m: u32, k: u32) -> InstrText
     requires registers { (n < 16) × (m < 16) }
     ensures { text_tokens result ≡ text_tokens text ++ comma ∷ scaled n m k }
 {
-    let given = and_turn(and(open(text, r(n)), r(m)), "lsl", k);
+    let given = and_any_shift(and(open(text, r(n)), r(m)), "lsl", k);
     marked(given, Mark::CloseBracket)
 }

@@ -19,6 +19,6 @@ pub use operands::{
     is_the_mark, is_vector, operand, size_of, token_behind, value_by,
 };
 pub use shapes::{
-    alone, and, and_constant, and_shift, and_turn, first, four, marked, one, or_zero, q, r, three,
-    two, with,
+    alone, and, and_any_shift, and_constant, and_shift, first, four, marked, one, or_zero, q, r,
+    three, two, with,
 };

@@ -1,7 +1,7 @@
 //! The shapes that texts of rows have.
 
 ghost use Rattle.std.specs.Prelude.{◌≡◌, ◌≤◌, ◌<◌, ◌+◌, ◌++◌, ◌∷◌, [], length};
-ghost use Rattle.hm_text_rows.specs.Shapes.{and_constant, and_operand, and_shift, and_turn, four, one, or_zero, q, r, three, two};
+ghost use Rattle.hm_text_rows.specs.Shapes.{and_constant, and_operand, and_shift, and_any_shift, four, one, or_zero, q, r, three, two};
 ghost use Rattle.hm_tokens.specs.Texts.{part_token, text_tokens};
 ghost use Rattle.hm_tokens.specs.Tokens.{mark_token, word, comma};
 
@@ -141,9 +141,9 @@ pub fn four(
 }
 
 /// The text with a shift more, behind a comma, by 0 too: a word, as `lsl`, and a constant.
-pub fn and_turn(mut text: InstrText, kind: &'static str, n: u32) -> InstrText
+pub fn and_any_shift(mut text: InstrText, kind: &'static str, n: u32) -> InstrText
     requires { length text.operands.items ≤ 30 }
-    ensures tokens { text_tokens result ≡ and_turn (text_tokens text) kind.now n }
+    ensures tokens { text_tokens result ≡ and_any_shift (text_tokens text) kind.now n }
     ensures room { length result.operands.items ≡ length text.operands.items + 4 }
 {
     text.operands.push(Part::Mark(Mark::Comma));
@@ -161,5 +161,5 @@ pub fn and_shift(text: InstrText, kind: &'static str, n: u32) -> InstrText
     if n == 0 {
         return text;
     }
-    and_turn(text, kind, n)
+    and_any_shift(text, kind, n)
 }

@@ -22,10 +22,10 @@ unfolding vector_word_value is_vector_name
 msl = record { value = refl; is_kind = refl; is = refl }
 
 -- one text of an immediate that is shifted
-turned : (s : List ℕ) {f v : List ℕ} {z m i : ℕ} (d : Below 8) → i < 1000 → (n : ℕ) → is_mnemonic s ≡ true → Suffix f false 0 z → Operand v m kinds.Word
+with_shift : (s : List ℕ) {f v : List ℕ} {z m i : ℕ} (d : Below 8) → i < 1000 → (n : ℕ) → is_mnemonic s ≡ true → Suffix f false 0 z → Operand v m kinds.Word
     → n < 1000
     → Reads (shifted (s ++ f) v n d.value i) s (given false 0 z kinds.Word d.value i m n)
-turned s d hi n mnemonic g o hn = reads_shifted mnemonic g (a_vector d) o hi hn
+with_shift s d hi n mnemonic g o hn = reads_shifted mnemonic g (a_vector d) o hi hn
 
 abbrev FormReads : ℕ → ℕ → ℕ → ℕ → Type 0
 FormReads op d x cm = Reads (get_or (constant_forms op d x) cm []) (constant_mnemonic (constant_number op cm)) (constant_given op cm d x)
@@ -37,19 +37,19 @@ constant_reads op cm x d ho hc hx =
     let halves = suffix_integer {z = 1} (omega arith) in
     at_below (FormReads op d.value x) 15 cm
     (reads_constant {s = codes "vmov"} refl (suffix_whole op ho) (a_vector d) hx
-    ▹ turned (constant_move_mnemonic op) d hx 16 refl words msl (omega arith)
-    ▹ turned (constant_move_mnemonic op) d hx 8 refl words msl (omega arith)
-    ▹ turned (constant_merge_mnemonic op) d hx 8 refl halves lsl (omega arith)
-    ▹ turned (constant_move_mnemonic op) d hx 8 refl halves lsl (omega arith)
-    ▹ turned (constant_merge_mnemonic op) d hx 0 refl halves lsl (omega arith)
-    ▹ turned (constant_move_mnemonic op) d hx 0 refl halves lsl (omega arith)
-    ▹ turned (constant_merge_mnemonic op) d hx 24 refl words lsl (omega arith)
-    ▹ turned (constant_move_mnemonic op) d hx 24 refl words lsl (omega arith)
-    ▹ turned (constant_merge_mnemonic op) d hx 16 refl words lsl (omega arith)
-    ▹ turned (constant_move_mnemonic op) d hx 16 refl words lsl (omega arith)
-    ▹ turned (constant_merge_mnemonic op) d hx 8 refl words lsl (omega arith)
-    ▹ turned (constant_move_mnemonic op) d hx 8 refl words lsl (omega arith)
-    ▹ turned (constant_merge_mnemonic op) d hx 0 refl words lsl (omega arith)
-    ▹ turned (constant_move_mnemonic op) d hx 0 refl words lsl (omega arith)
+    ▹ with_shift (constant_move_mnemonic op) d hx 16 refl words msl (omega arith)
+    ▹ with_shift (constant_move_mnemonic op) d hx 8 refl words msl (omega arith)
+    ▹ with_shift (constant_merge_mnemonic op) d hx 8 refl halves lsl (omega arith)
+    ▹ with_shift (constant_move_mnemonic op) d hx 8 refl halves lsl (omega arith)
+    ▹ with_shift (constant_merge_mnemonic op) d hx 0 refl halves lsl (omega arith)
+    ▹ with_shift (constant_move_mnemonic op) d hx 0 refl halves lsl (omega arith)
+    ▹ with_shift (constant_merge_mnemonic op) d hx 24 refl words lsl (omega arith)
+    ▹ with_shift (constant_move_mnemonic op) d hx 24 refl words lsl (omega arith)
+    ▹ with_shift (constant_merge_mnemonic op) d hx 16 refl words lsl (omega arith)
+    ▹ with_shift (constant_move_mnemonic op) d hx 16 refl words lsl (omega arith)
+    ▹ with_shift (constant_merge_mnemonic op) d hx 8 refl words lsl (omega arith)
+    ▹ with_shift (constant_move_mnemonic op) d hx 8 refl words lsl (omega arith)
+    ▹ with_shift (constant_merge_mnemonic op) d hx 0 refl words lsl (omega arith)
+    ▹ with_shift (constant_move_mnemonic op) d hx 0 refl words lsl (omega arith)
     ▹ tt)
     hc

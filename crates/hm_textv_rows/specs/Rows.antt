@@ -24,7 +24,7 @@ use Rattle.hm_isa.specs.Words.{imm8, zero_as_32}
 use Rattle.hm_tokens.specs.Lines.{IsLineOf}
 use Rattle.hm_tokens.specs.Tokens.{Tok, word, close_brace, close_bracket, comma, open_brace, open_bracket}
 use Rattle.hm_text_rows.specs.Mnemonics.{element_suffix}
-use Rattle.hm_text_rows.specs.Shapes.{and_constant, and_turn, back, constant, either, four, indexed, inside, one, or_zero, q, r, three, two}
+use Rattle.hm_text_rows.specs.Shapes.{and_constant, and_any_shift, back, constant, either, four, indexed, inside, one, or_zero, q, r, three, two}
 use Rattle.hm_textv_rows.specs.Mnemonics.{access_mnemonic, access_suffix, add_mnemonic, bitwise_mnemonic, block_letters, block_mnemonic, block_word}
 use Rattle.hm_textv_rows.specs.Mnemonics.{by_sign, carry_mnemonic, compare_condition, compare_suffix, compare_word, complex_sum_mnemonic}
 use Rattle.hm_textv_rows.specs.Mnemonics.{complex_sum_suffix, constant_merge_mnemonic, constant_move_mnemonic, constant_shift_mnemonic}
@@ -69,7 +69,7 @@ unshifted name d x = and_constant (one name (q d)) x
 -- V15: the tokens of an immediate and how far it is shifted, `#x,lsl #n`
 -- (DDI0553, "VMOV (immediate)", "VMVN (immediate)", "VORR (immediate)" and "VBIC (immediate)")
 abbrev pub shifted : List ℕ → List ℕ → ℕ → ℕ → ℕ → List Tok
-shifted name kind n d x = and_turn (unshifted name d x) kind n
+shifted name kind n d x = and_any_shift (unshifted name d x) kind n
 
 -- V15: the tokens by cm: the element, where the immediate stands in it, and by op one of two operations
 -- (DDI0553, "VMOV (immediate)", "VMVN (immediate)", "VORR (immediate)" and "VBIC (immediate)")

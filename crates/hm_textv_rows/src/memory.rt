@@ -11,8 +11,8 @@ use crate::mnemonics::{access_mnemonic, pair_mnemonic, quad_mnemonic};
 use crate::suffixes::access_suffix;
 use hm_isa::{Below, Bit, QRegister, V24, V25, V26, V27, V28};
 use hm_text_rows::{
-    Index, alone, and, and_turn, back, element_suffix, indexed, inside, marked, one, open, q, r,
-    with,
+    Index, alone, and, and_any_shift, back, element_suffix, indexed, inside, marked, one, open, q,
+    r, with,
 };
 use hm_tokens::{InstrText, Mark, Part, vector_name};
 
@@ -73,7 +73,7 @@ fn scale(text: InstrText, o: Bit, y: u32) -> InstrText
     if o.get() == 0 {
         return text;
     }
-    and_turn(text, "uxtw", y)
+    and_any_shift(text, "uxtw", y)
 }
 
 /// The text with an address more that is a base and a vector of offsets.

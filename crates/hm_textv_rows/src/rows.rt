@@ -26,7 +26,7 @@ use hm_isa::{
     V14, V15, V16, V17, V18, V19, V20, V21, V22, V23, Vector,
 };
 use hm_text_rows::{
-    alone, and, and_constant, and_turn, element_suffix, first, one, or_zero, q, r, three, two,
+    alone, and, and_any_shift, and_constant, element_suffix, first, one, or_zero, q, r, three, two,
 };
 use hm_tokens::{InstrText, Part};
 
@@ -383,7 +383,7 @@ fn shifted(
 ) -> InstrText
     ensures { text_tokens result ≡ shifted (mnemonic.now ++ suffix.now) kind.now n d.value x }
 {
-    and_turn(and_constant(one(mnemonic, suffix, q(d)), x), kind, n)
+    and_any_shift(and_constant(one(mnemonic, suffix, q(d)), x), kind, n)
 }
 
 /// The text of a row V15.
