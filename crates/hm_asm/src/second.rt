@@ -23,9 +23,9 @@ use crate::errors::{AsmErr, refused};
 use crate::making::Making;
 use hm_base::{Image, OutOfMemory};
 use hm_code_bytes::code_bytes;
-use hm_line::{AsmKind, Labels, TextErr, column};
+use hm_line::{AsmKind, Labels, TextErr, behind_mark, column};
 use hm_source::{
-    DatumSize, Directive, Item, Line, Statement, Values, behind_mark, first_line, item_at, padding,
+    DatumSize, Directive, Item, Line, Statement, Values, first_line, item_at, padding,
     read_source_line,
 };
 use hm_text::parse_instr;

@@ -7,7 +7,7 @@ use Rattle.hm_state.specs.State.{State, cells}
 use Rattle.hm_beat.specs.Trees.{action}
 use Rattle.hm_moves.specs.Moves.{byte_count}
 use Rattle.hm_moves.specs.Ways.{Found, Transfer, at_addresses, at_offsets, contiguous, interleaved}
-use Rattle.hm_moves.specs.Wholes.{IsNarrow}
+use Rattle.hm_moves.specs.Wholes.{FitsRegister}
 use Rattle.hm_rows.specs.Rows.{Kind, Moves, Registers, kind_of, tree_of, vector_tree}
 use Rattle.hm_rows.proofs.Rows.{IsSized, are_sized}
 use Rattle.hm_beat_laws.specs.Rows.{kind_part, row_part}
@@ -25,10 +25,10 @@ by_way store y z sign (at_offsets d n m scale) x s b low narrow = offsets_part y
 by_way store y z sign (at_addresses d m offset back) x s b low narrow = addresses_part y z sign x s b low store d m offset back narrow
 by_way store y z sign (interleaved d n four part back) x s b low narrow = interleaved_part y z sign d n four part back x s b low store narrow
 
-pub moved_parts : (t : Transfer) (x : Around) (b : ℕ) (s : State) → IsNarrow t → b < 4 → IsMovedPart t x b s
+pub moved_parts : (t : Transfer) (x : Around) (b : ℕ) (s : State) → FitsRegister t → b < 4 → IsMovedPart t x b s
 moved_parts t x b s narrow low = by_way t.store t.memory t.register t.signed t.found x s b low narrow
 
-pub kind_parts : (k : Kind) (x : Around) (b : ℕ) (s : State) → ((t : Transfer) → k ≡ Moves t → IsNarrow t) → b < 4
+pub kind_parts : (k : Kind) (x : Around) (b : ℕ) (s : State) → ((t : Transfer) → k ≡ Moves t → FitsRegister t) → b < 4
     → (action cells (tree_of k x b)).run s ≡ kind_part k x b s
 kind_parts (Registers f) x b s narrow low = form_beat f b s low
 kind_parts (Moves t) x b s narrow low = moved_parts t x b s (narrow t refl) low

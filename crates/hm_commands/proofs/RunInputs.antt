@@ -4,7 +4,7 @@ use Rattle.hm_base.specs.Image.{Segment}
 use Rattle.hm_base.specs.declared.errors.ImageErr.{ImageErr}
 use Rattle.hm_base.specs.declared.errors.ImageErr.TheVariants as refusals
 use Rattle.hm_elf.specs.ReadImage.{Fails as FailsImage}
-use Rattle.hm_machine.specs.Turns.{LoadRefuses}
+use Rattle.hm_machine.specs.Calls.{LoadRefuses}
 use Rattle.hm_machine.specs.declared.load.LoadErr.{LoadErr}
 use Rattle.hm_machine.specs.declared.load.LoadErr.TheVariants as load
 use Rattle.hm_sched.specs.ReadFile.{Fails}

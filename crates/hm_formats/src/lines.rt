@@ -2,10 +2,10 @@
 
 use crate::input::{hexadecimal, text};
 use anyhow::{Context, Result, bail, ensure};
-use hm_line::{AsmKind, Labels, TextErr, operand_column};
+use hm_line::{AsmKind, Labels, TextErr, behind_mark, number_at, operand_column};
 use hm_source::{
-    DatumSize, Directive, Item, Line, Statement, behind_mark, behind_statement, first_line, fits,
-    item_at, number_at, read_source_line,
+    DatumSize, Directive, Item, Line, Statement, behind_statement, first_line, fits, item_at,
+    read_source_line,
 };
 use hm_tokens::Mark;
 use std::alloc::Global;

@@ -85,7 +85,7 @@ constant_new r b [] = 0
 abbrev pub constant_row : V15 → Row
 constant_row r = words_row false r.d.value (λ b. []) (λ b slice. constant_new r b) None
 
--- PARTS OF WORDS
+-- NARROW ELEMENTS
 -- V16: whether an instruction saturates: VQMOVN and VQMOVUN do, and VMOVN does not
 abbrev pub narrowing_saturates : NarrowName → Bool
 narrowing_saturates narrow.Plain = false
@@ -289,7 +289,7 @@ select_new slice _ = 0
 abbrev pub select_row : Select → Row
 select_row r = words_row true r.d.value (λ b. word_place r.n.value b ∷ word_place r.m.value b ∷ []) (λ b. select_new) None
 
--- WIDE PRODUCTS
+-- LONG PRODUCTS
 -- the word of a register that elements of beat b stand in; both words of a product of 64 bits come of one
 abbrev pub long_product_at : V6 → ℕ → ℕ
 long_product_at r b = cond (nat_eq r.z.value 2) (2 * (b / 2) + r.t.value) b

@@ -10,10 +10,10 @@ use Rattle.hm_lane.specs.declared.lanes.Size.TheVariants.{Byte, Half, Word}
 use Rattle.hm_lane.specs.Lanes.{bytes_of, lanes, paired_tests}
 use Rattle.hm_lane.specs.Predicate.{mask_place}
 use Rattle.hm_state.specs.Store.{put_all}
-use Rattle.hm_state.specs.State.{Cell, State, Value, at, cells, into}
+use Rattle.hm_state.specs.State.{Cell, State, Value, at, bit, cells, into}
 use Rattle.hm_beat.specs.Rows.{active_at, predicate_at, register_at, retired, word_place}
 use Rattle.hm_kinds.specs.Row.{mask_writes, row_by_words, slice_at, inverted_by, values_at}
-use Rattle.hm_lane_fns.specs.Words.{bit_of, both, filled, nibble, operand_places, truths}
+use Rattle.hm_lane_fns.specs.Words.{both, filled, nibble, operand_places, truths}
 use Rattle.hm_forms_predicate.specs.declared.compare.Comparison.{Comparison}
 use Rattle.hm_forms_predicate.specs.Forms.{block_mask, compare_row, compare_slice, compares, count_row, count_slice, counted, invert_row, negated, slice_row}
 use Rattle.hm_forms_predicate.specs.Predicates.{compare_result, count_result, invert_result, mask_after, predicate_whole, inverted_half}
@@ -33,7 +33,7 @@ slices : (w : Bool) (reads : ℕ → List Place) (f : ℕ → ℕ → List Bool 
 slices w reads f new s = refl
 
 -- four truth values inverted are their bits inverted
-one_bit : (p : Bool) → bit_of (not p) + bit_of p ≡ 1
+one_bit : (p : Bool) → bit (not p) + bit p ≡ 1
 one_bit p = grind arith
 
 pub inverted_low : (mask : ℕ) (p q r t : Bool) (l : List Bool)

@@ -2,7 +2,7 @@
 use Rattle.std.specs.Prelude.{◌≡◌, ◌⊎◌, ◌↔◌, ℕ, ◌+◌, ◌-◌, ◌*◌, ◌/◌, ◌%◌, ◌<◌, ◌≤◌, true, All, List, [], ◌∷◌, ◌++◌, length, slice_index}
 use Rattle.std.specs.List.{AllByRecursion}
 use Rattle.hm_base.specs.Image.{IsApart, IsImage, IsPlaced, Segment, covers, segment}
-use Rattle.hm_ihex.specs.Records.{Record, data_at, end, new_base, pair_of, start, sum_of}
+use Rattle.hm_ihex.specs.Records.{Record, data_at, end, new_base, pair_of, start, sum_of, colon}
 
 -- ---- lines
 
@@ -51,7 +51,7 @@ pub record IsRecord (bytes : List ℕ) (said : Record) : Type 0 where
 
 -- a line is the text of a record: a colon, and the digits of its bytes
 abbrev pub IsRecordLine : List ℕ → Record → Type 0
-IsRecordLine line said = (digits : List ℕ) × (bytes : List ℕ) × (line ≡ 58 ∷ digits) × AreDigits digits bytes × IsRecord bytes said
+IsRecordLine line said = (digits : List ℕ) × (bytes : List ℕ) × (line ≡ colon ∷ digits) × AreDigits digits bytes × IsRecord bytes said
 
 -- a line for each record
 abbrev pub AreRecordLines : List (List ℕ) → List Record → Type 0

@@ -53,7 +53,11 @@ record_in (len ∷ high ∷ low ∷ kind ∷ rest) =
     else None
 record_in bytes = None
 
+-- the mark in front of a record
+abbrev pub colon : ℕ
+colon = 58
+
 -- a line of a record: a colon, and the digits of its bytes
 abbrev pub line_in : List ℕ → Option Record
 line_in [] = None
-line_in (c ∷ digits) = if nat_eq c 58 then option_and_then record_in (bytes_in digits) else None
+line_in (c ∷ digits) = if nat_eq c colon then option_and_then record_in (bytes_in digits) else None

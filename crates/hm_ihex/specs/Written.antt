@@ -3,7 +3,7 @@ use Rattle.std.specs.Prelude.{ℕ, zero, suc, ◌+◌, ◌-◌, ◌/◌, ◌%◌
 use Rattle.std.specs.List.{AllByRecursion, flat_map}
 use Rattle.hm_base.specs.Image.{Segment, segment}
 use Rattle.hm_text_base.specs.Spans.{line}
-use Rattle.hm_ihex.specs.Records.{sum_of}
+use Rattle.hm_ihex.specs.Records.{colon, sum_of}
 
 -- a hexadecimal digit in upper case
 abbrev pub digit : ℕ → ℕ
@@ -20,7 +20,7 @@ check_of bytes = (256 - sum_of bytes % 256) % 256
 
 -- a record: a colon, the digits of its bytes and of its check byte
 abbrev pub record_text : List ℕ → List ℕ
-record_text bytes = 58 ∷ digits_of (bytes ++ check_of bytes ∷ [])
+record_text bytes = colon ∷ digits_of (bytes ++ check_of bytes ∷ [])
 
 -- data at an offset from the base
 abbrev pub data_text : ℕ → List ℕ → List ℕ

@@ -1,14 +1,15 @@
 -- Operations on elements, and numbers in each of them.
 use Rattle.std.proofs.Common.{◌≡◌, ℕ, zero, suc, ◌+◌, ◌-◌, ◌*◌, ◌/◌, ◌%◌, ◌^◌, ◌<◌, ◌≤◌, true, false, cond, ◌&&◌, ltb, nat_eq, get_or, length, List, [], ◌∷◌}
-use Rattle.std.proofs.Common.{refl, sym, ap, ◌∙◌, subst, arith}
+use Rattle.std.proofs.Common.{replicate, refl, sym, ap, ◌∙◌, subst, arith}
 use Rattle.std.specs.Prelude.{ℤ, pos, ◌+ℤ◌, ◌-ℤ◌, unsigned_abs, Ok}
 use Rattle.std.proofs.lemmas.Int.{ints}
+use Rattle.std.proofs.lemmas.List.{length-replicate}
 use Rattle.std.proofs.lemmas.Int.{int_rem_euclid_is}
 use Rattle.hm_base.specs.declared.Place.TheVariants.{R}
 use Rattle.hm_beat.specs.Rows.{predicate_at, register_at}
 use Rattle.hm_codes.specs.Listing.{Listing}
 use Rattle.hm_forms_elements.specs.declared.lanes.Lanes.{Lanes}
-use Rattle.hm_lane_fns.specs.Registers.{in_each_lane, operand_register, repeated}
+use Rattle.hm_lane_fns.specs.Registers.{in_each_lane, operand_register}
 use Rattle.hm_forms_elements.specs.Registers.{lanes_result, lanes_saturated, lanes_whole}
 use Rattle.hm_isa.specs.declared.Instr.{Instr}
 use Rattle.hm_isa.specs.declared.Instr.TheVariants as instr
@@ -215,32 +216,28 @@ pub lane_fits : (t : ElementType) (v : View) (s : State) → Shows t v s → (q 
 lane_fits t v s h q e room k = subst (λ (x : ℕ). x < modulus t) (h.lane q e room k) (element_fits t q e s)
 
 -- A NUMBER IN EACH ELEMENT
-get_repeated : (n x e : ℕ) → e < n → get_or (repeated n x) e 0 ≡ x
+get_repeated : (n x e : ℕ) → e < n → get_or (replicate n x) e 0 ≡ x
 get_repeated zero x e h = absurd (omega arith)
 get_repeated (suc n) x zero h = refl
 get_repeated (suc n) x (suc e) h = get_repeated n x e (omega arith)
 
-length_repeated : (n x : ℕ) → length (repeated n x) ≡ n
-length_repeated zero x = refl
-length_repeated (suc n) x = ap suc (length_repeated n x)
-
-ones_repeated : (n x : ℕ) → list.lanes OneByte (unlanes OneByte (repeated n x)) ≡ repeated n (x % 2 ^ 8)
+ones_repeated : (n x : ℕ) → list.lanes OneByte (unlanes OneByte (replicate n x)) ≡ replicate n (x % 2 ^ 8)
 ones_repeated zero x = refl
 ones_repeated (suc n) x = ap (λ (l : List ℕ). x % 2 ^ 8 ∷ l) (ones_repeated n x)
 
-pairs_repeated : (n x : ℕ) → list.lanes Half (unlanes Half (repeated n x)) ≡ repeated n (x % 2 ^ 16)
+pairs_repeated : (n x : ℕ) → list.lanes Half (unlanes Half (replicate n x)) ≡ replicate n (x % 2 ^ 16)
 pairs_repeated zero x = refl
 pairs_repeated (suc n) x =
     let e : x % 256 + 256 * (x / 256 % 256) ≡ x % 2 ^ 16 = omega arith in
     λ j. e j ∷ pairs_repeated n x j
 
-fours_repeated : (n x : ℕ) → list.lanes Word (unlanes Word (repeated n x)) ≡ repeated n (x % 2 ^ 32)
+fours_repeated : (n x : ℕ) → list.lanes Word (unlanes Word (replicate n x)) ≡ replicate n (x % 2 ^ 32)
 fours_repeated zero x = refl
 fours_repeated (suc n) x =
     let e : x % 256 + 256 * (x / 256 % 256) + 65536 * (x / 65536 % 256) + 16777216 * (x / 16777216 % 256) ≡ x % 2 ^ 32 = omega arith in
     λ j. e j ∷ fours_repeated n x j
 
-splat_lanes : (t : ElementType) (x : ℕ) → list.lanes (size_of_type t) (in_each_lane (size_of_type t) x) ≡ repeated (lanes t) (x % modulus t)
+splat_lanes : (t : ElementType) (x : ℕ) → list.lanes (size_of_type t) (in_each_lane (size_of_type t) x) ≡ replicate (lanes t) (x % modulus t)
 splat_lanes U8 x = ones_repeated 16 x
 splat_lanes S8 x = ones_repeated 16 x
 splat_lanes U16 x = pairs_repeated 8 x
@@ -300,6 +297,6 @@ module _ (t : ElementType) (listing : Listing) where
       let spread = splat_lanes t v.scratch in
       reached t listing (instr.Vector (vector.V18 r)) w s (lanes_whole l s) (ap listing shows.pc ∙ stands.here ∙ ap Ok k.is)
       (comes_to (vector.V18 r) s (lanes_whole l s) (in_loop t v s shows can.1) shows.block refl refl)
-      (lane_row t l v s shows can.1 z_is q q k.d_is k.d_is can.0 can.0 ys y_is (ap length spread ∙ length_repeated (lanes t) (v.scratch % modulus t))
+      (lane_row t l v s shows can.1 z_is q q k.d_is k.d_is can.0 can.0 ys y_is (ap length spread ∙ length-replicate (lanes t) (v.scratch % modulus t))
       f (λ e m. ap (lane_of fn.Dup true z (v.lane q e) (v.lane q e))
       (ap (λ (x : List ℕ). get_or x e 0) spread ∙ get_repeated (lanes t) (v.scratch % modulus t) e m) ∙ dup_is t (v.lane q e) (v.lane q e) v.scratch))

@@ -19,10 +19,17 @@ op_text op.And = codes "and"
 op_text op.Or = codes "or"
 op_text op.Xor = codes "xor"
 
+-- the brackets of an operation
+abbrev pub open_bracket : ℕ
+open_bracket = 40
+
+abbrev pub close_bracket : ℕ
+close_bracket = 41
+
 -- a word, or (OP E E)
 abbrev pub tree_text : Tree → List ℕ
 tree_text (word w) = w
-tree_text (apply o l r) = 40 ∷ (op_text o ++ 32 ∷ (tree_text l ++ 32 ∷ (tree_text r ++ 41 ∷ [])))
+tree_text (apply o l r) = open_bracket ∷ (op_text o ++ 32 ∷ (tree_text l ++ 32 ∷ (tree_text r ++ close_bracket ∷ [])))
 
 -- how many names and numbers it has
 abbrev pub leaves : Tree → ℕ

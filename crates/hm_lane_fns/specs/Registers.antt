@@ -1,5 +1,5 @@
 -- Whole vector registers, as forms of rows take and give them, and what ends an instruction.
-use Rattle.std.specs.Prelude.{ℕ, zero, suc, ◌*◌, Bool, cond, nat_eq, List, [], ◌∷◌, ◌++◌}
+use Rattle.std.specs.Prelude.{ℕ, ◌*◌, Bool, cond, nat_eq, List, ◌++◌, replicate}
 use Rattle.hm_base.specs.declared.Place.TheVariants.{R}
 use Rattle.hm_lane.specs.declared.lanes.Size.{Size}
 use Rattle.hm_lane.specs.Lanes.{lanes, merged, per_word, unlanes}
@@ -29,14 +29,9 @@ merges d result s = merges_under (predicate_at s) d result s
 abbrev pub elements : Size → ℕ → State → List ℕ
 elements z q s = lanes z (register_at q s)
 
--- a number in each lane of a register
-abbrev pub repeated : ℕ → ℕ → List ℕ
-repeated zero x = []
-repeated (suc n) x = x ∷ repeated n x
-
 -- the 16 bytes of a vector register with a number in each lane
 abbrev pub in_each_lane : Size → ℕ → List ℕ
-in_each_lane z x = unlanes z (repeated (4 * per_word z) x)
+in_each_lane z x = unlanes z (replicate (4 * per_word z) x)
 
 -- the second operand: a register, or a core register or a constant in each lane; number 15 stands for zero
 abbrev pub operand_register : Size → Operand → State → List ℕ

@@ -3,9 +3,8 @@ use Rattle.std.proofs.Common.{◌≡◌, ℕ, ◌+◌, ◌*◌, ◌≤◌, ◌<�
 use Rattle.std.proofs.lemmas.List.{append-nil}
 use Rattle.hm_codes.specs.Listing.{Stands}
 use Rattle.hm_codes.proofs.Unique.{unique}
-use Rattle.hm_isa.specs.Code.{halfwords}
+use Rattle.hm_isa.specs.Code.{halfwords, width_of}
 use Rattle.hm_isa.specs.declared.Instr.{Instr}
-use Rattle.hm_isa.specs.Code.{width_of}
 use Rattle.hm_listing.specs.Listings.{Entry, shown, half, halves_of, IsEntry, AreEntries, IsListed, lines_from, entry_line}
 use Rattle.hm_listing.proofs.Halves.{some_half}
 

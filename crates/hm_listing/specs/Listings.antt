@@ -2,9 +2,8 @@
 use Rattle.std.specs.Prelude.{◌≡◌, ◌≤◌, ◌<◌, ℕ, ◌+◌, ◌*◌, ◌/◌, ◌%◌, List, [], ◌∷◌, ◌++◌, length, map, codes, Option, Some, None}
 use Rattle.std.specs.List.{join_with_byte}
 use Rattle.hm_codes.specs.Listing.{half_at, Stands}
-use Rattle.hm_isa.specs.Code.{halfwords}
+use Rattle.hm_isa.specs.Code.{halfwords, width_of}
 use Rattle.hm_isa.specs.declared.Instr.{Instr}
-use Rattle.hm_isa.specs.Code.{width_of}
 use Rattle.hm_text.specs.Tables.{printed_text}
 use Rattle.hm_text_base.specs.Texts.{hex2, hex8}
 

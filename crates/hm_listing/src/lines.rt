@@ -3,11 +3,10 @@
 ghost use Rattle.std.specs.Prelude.{◌≡◌, ◌<◌, ◌≤◌, ◌+◌, ◌*◌, ◌%◌, ◌++◌, List, ℕ, length, IfOk, IfSome, IfNone};
 ghost use Rattle.hm_base.specs.Image.{flash_size};
 ghost use Rattle.hm_codes.specs.Listing.{Stands, half_at};
-ghost use Rattle.hm_isa.specs.Code.{halfwords};
+ghost use Rattle.hm_isa.specs.Code.{halfwords, width_of};
 ghost use Rattle.hm_isa.specs.declared.Instr.{Instr};
 ghost use Rattle.hm_listing.specs.Listings.{Entry, IsEntry, IsListed, entry_line, halves_from, halves_of, shown};
 ghost use Rattle.hm_mem.specs.Memory.{flash_at, memory_of};
-ghost use Rattle.hm_isa.specs.Code.{width_of};
 
 use crate::entry::{half_line, instr_line};
 use hm_base::OutOfMemory;

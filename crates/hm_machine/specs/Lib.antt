@@ -1,7 +1,7 @@
 pub mod Ticked
 pub mod Shown
 pub mod Machines
-pub mod Turns
+pub mod Calls
 pub mod Checkpoints
 pub mod Taped
 pub mod Tapes

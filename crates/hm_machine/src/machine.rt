@@ -7,7 +7,7 @@ ghost use Rattle.hm_codes.specs.Listing.{Listing, IsListing, Stands};
 ghost use Rattle.hm_isa.specs.declared.Instr.{Instr};
 ghost use Rattle.hm_machine.specs.Bares.{IsBare, ShowsGiven, may_pair};
 ghost use Rattle.hm_machine.specs.Shown.{Shows, fixed_of, run_of, timed_of};
-ghost use Rattle.hm_machine.specs.Turns.{tick_answer, LoadRefuses};
+ghost use Rattle.hm_machine.specs.Calls.{tick_answer, LoadRefuses};
 ghost use Rattle.hm_mem.specs.Memory.{flash_at, memory_of, told_at, tainted_at};
 ghost use Rattle.hm_run.specs.Headline.{Headline, PlainReport, Riders};
 ghost use Rattle.hm_run.specs.InOrder.{in_order};

@@ -5,7 +5,7 @@ ghost use Rattle.std.specs.Borrow.{sem};
 ghost use Rattle.hm_base.specs.Image.{Segment};
 ghost use Rattle.hm_machine.specs.Shown.{Shown, Shows};
 ghost use Rattle.hm_machine.specs.Taped.{Tapes};
-ghost use Rattle.hm_machine.specs.Turns.{LoadRefuses};
+ghost use Rattle.hm_machine.specs.Calls.{LoadRefuses};
 ghost use Rattle.hm_sched.specs.Schedule.{Sched, ticks_of, most_ticks};
 ghost use Rattle.hm_state.specs.Start.{reset_pc};
 

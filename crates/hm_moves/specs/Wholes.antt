@@ -120,5 +120,5 @@ transfer_whole t s =
     (Ok (retired (put_all cells (transferred t ps addrs s ++ written_back t.found s ++ advance_half 0 s ++ advance_half 2 s) s)))
 
 -- an element that is stored is not longer in memory than in its register
-abbrev pub IsNarrow : Transfer → Type 0
-IsNarrow t = t.store ≡ true → byte_count t.memory ≤ byte_count t.register
+abbrev pub FitsRegister : Transfer → Type 0
+FitsRegister t = t.store ≡ true → byte_count t.memory ≤ byte_count t.register

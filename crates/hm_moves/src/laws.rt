@@ -4,7 +4,7 @@ ghost use Rattle.std.specs.Prelude.{◌≡◌, false};
 ghost use Rattle.hm_mem.specs.Memory.{Around};
 ghost use Rattle.hm_beat.specs.Laws.{KeepsLr, RowLaws};
 ghost use Rattle.hm_moves.specs.Moves.{IsMoves, Moves, SparesLr, moves_tree, moves_by_words};
-ghost use Rattle.hm_moves.specs.Wholes.{IsNarrow, transfer_whole};
+ghost use Rattle.hm_moves.specs.Wholes.{FitsRegister, transfer_whole};
 ghost use Rattle.hm_moves.specs.Ways.{Transfer, moves_by, way_writes_lr};
 
 /// What four beats of a row that loads or stores come to, by words and as the whole.
@@ -14,6 +14,6 @@ pub fn moves_law()
     // The same of whatever a row moves, by words, also where an element is longer in memory than in its register.
     ensures words { (t : Transfer) → RowLaws (moves_tree (moves_by t)) (moves_by_words (moves_by t)) }
     // The same of what a row moves, whose whole is said of its elements as lists, in rising order.
-    ensures ways { (t : Transfer) → IsNarrow t → RowLaws (moves_tree (moves_by t)) (transfer_whole t) }
+    ensures ways { (t : Transfer) → FitsRegister t → RowLaws (moves_tree (moves_by t)) (transfer_whole t) }
     ensures ways_keep_lr { (t : Transfer) (x : Around) → way_writes_lr t.found ≡ false → KeepsLr (moves_tree (moves_by t) x) }
 {}

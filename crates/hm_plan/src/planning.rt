@@ -6,7 +6,7 @@ ghost use Rattle.hm_base.specs.Image.{flash_byte};
 ghost use Rattle.hm_codes.specs.Listing.{Listing, IsListing};
 ghost use Rattle.hm_machine.specs.Bares.{IsBare};
 ghost use Rattle.hm_machine.specs.Shown.{run_of};
-ghost use Rattle.hm_machine.specs.Turns.{LoadRefuses};
+ghost use Rattle.hm_machine.specs.Calls.{LoadRefuses};
 ghost use Rattle.hm_mem.specs.Memory.{flash_at};
 ghost use Rattle.hm_plan_laws.specs.Ends.{DecidedBy, EndsAs, IsGreedyAt, IsPlanEnd};
 ghost use Rattle.hm_plan_laws.specs.Greedy.{greedy_at};

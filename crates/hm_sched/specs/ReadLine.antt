@@ -27,11 +27,15 @@ after_count (Some n) rest = if n == 0 then Err Count else Ok (n, rest)
 -- a text that has a star has a count before the first
 abbrev pub counted : List ℕ → List ℕ × List ℕ → Result (ℕ × List ℕ) LineKind
 counted text (front, []) = Ok (1, text)
-counted text (front, star ∷ rest) = after_count (number_in front) rest
+counted text (front, mark ∷ rest) = after_count (number_in front) rest
+
+-- the mark between a count and letters
+abbrev pub star : ℕ
+star = 42
 
 -- the count of a line, and the text behind it
 unfoldable pub count_in : List ℕ → Result (ℕ × List ℕ) LineKind
-count_in text = counted text (span 42 text)
+count_in text = counted text (span star text)
 
 -- the letters of a dash or of one to eight letters
 unfoldable pub steps_in : List ℕ → Option (List ℕ)

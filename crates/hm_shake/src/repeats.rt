@@ -5,7 +5,7 @@ ghost use Rattle.std.specs.List.{All};
 ghost use Rattle.hm_base.specs.Image.{Segment, flash_byte};
 ghost use Rattle.hm_codes.specs.Listing.{IsListing, Listing};
 ghost use Rattle.hm_handlers.specs.Runs.{shown_out};
-ghost use Rattle.hm_machine.specs.Turns.{LoadRefuses};
+ghost use Rattle.hm_machine.specs.Calls.{LoadRefuses};
 ghost use Rattle.hm_run.specs.Report.{report_text};
 ghost use Rattle.hm_sched.specs.Schedule.{Sched, most_irq, most_ticks, total};
 ghost use Rattle.hm_shake.specs.Ends.{ended_plain, ended_under, plain_end};

@@ -3,7 +3,7 @@
 ghost use Rattle.std.specs.Prelude.{◌≡◌, ◌≤◌, ◌%◌, IfOk, IfErr};
 ghost use Rattle.hm_base.specs.Image.{flash_byte};
 ghost use Rattle.hm_codes.specs.Listing.{IsListing, Listing};
-ghost use Rattle.hm_machine.specs.Turns.{LoadRefuses};
+ghost use Rattle.hm_machine.specs.Calls.{LoadRefuses};
 ghost use Rattle.hm_shake.specs.Findings.{FindsFor};
 ghost use Rattle.hm_state.specs.Start.{reset_pc};
 

@@ -1,5 +1,6 @@
 -- What the text of a line says, behind its label and before its comment.
 use Rattle.std.specs.Prelude.{◌≡◌, ◌≢◌, ℕ, List, [], ◌∷◌}
+use Rattle.hm_tokens.specs.Tokens.{point}
 use Rattle.hm_text.specs.Texts.{HasWidth}
 use Rattle.hm_source.specs.Directives.{Directed, IsDirective}
 
@@ -12,6 +13,6 @@ pub data Said : Type 0 where
 -- a text that begins with `.` is a directive, and no other is
 abbrev pub Says : List ℕ → Said → Type 0
 Says [] nothing = Unit {0}
-Says (b ∷ bs) (instruction n) = (b ≢ 46) × HasWidth (b ∷ bs) n
-Says (b ∷ bs) (directive asked) = (b ≡ 46) × IsDirective (b ∷ bs) asked
+Says (b ∷ bs) (instruction n) = (b ≢ point) × HasWidth (b ∷ bs) n
+Says (b ∷ bs) (directive asked) = (b ≡ point) × IsDirective (b ∷ bs) asked
 Says text said = ⊥

@@ -15,7 +15,7 @@ use Rattle.hm_isa.specs.declared.widths.NarrowRow.{NarrowRow}
 use Rattle.hm_isa.specs.declared.widths.NarrowRow.TheVariants as narrow
 use Rattle.hm_isa.specs.declared.widths.WideRow.{WideRow}
 use Rattle.hm_isa.specs.declared.widths.WideRow.TheVariants as wide
-use Rattle.hm_isa.specs.Code.{halves_by_width}
+use Rattle.hm_isa.specs.Code.{halves_by_width, width_of}
 use Rattle.hm_isa.specs.Widths.{by_width}
 use Rattle.hm_tokens.specs.Tokens.{Tok}
 use Rattle.hm_text_rows.specs.Labels.{Reaches}
@@ -27,7 +27,6 @@ use Rattle.hm_text32_codes.proofs.Rows as wide_laws
 use Rattle.hm_text32_rows.specs.Rows as wide_rows
 use Rattle.hm_text32_rows.specs.Targets as wide_targets
 use Rattle.hm_text.specs.Labels.{label_where}
-use Rattle.hm_isa.specs.Code.{width_of}
 use Rattle.hm_text.specs.Tables.{AreOfRow, HasTokens, IsRowOf, has_label, has_label_by, label_of, printed_by, target, target_by}
 
 -- A TARGET where there is a label

@@ -11,5 +11,5 @@ pub the_row : {A : Type 0} (P C : A → Type 0) (j : A) → ((i : A) → P i →
 the_row P C j coded exact i is = (exact i).1 (coded i is)
 
 -- where that row has no P, no row has
-pub other_row : {A : Type 0} (P C : A → Type 0) (j : A) → ((i : A) → P i → C i) → ((i : A) → (one j ≡ one i) ↔ C i) → (P j → ⊥) → (i : A) → P i → ⊥
-other_row P C j coded exact not i is = not (subst P (sym (some_is j i (the_row P C j coded exact i is))) is)
+pub no_row_else : {A : Type 0} (P C : A → Type 0) (j : A) → ((i : A) → P i → C i) → ((i : A) → (one j ≡ one i) ↔ C i) → (P j → ⊥) → (i : A) → P i → ⊥
+no_row_else P C j coded exact not i is = not (subst P (sym (some_is j i (the_row P C j coded exact i is))) is)

@@ -4,7 +4,7 @@ ghost use Rattle.std.specs.Prelude.{◌≡◌, ℕ, suc, ◌+◌, ◌-◌, ◌�
 ghost use Rattle.hm_base.specs.Image.{Segment, flash_byte};
 ghost use Rattle.hm_codes.specs.Listing.{IsListing, Listing};
 ghost use Rattle.hm_machine.specs.Shown.{Shows, timed_of};
-ghost use Rattle.hm_machine.specs.Turns.{LoadRefuses};
+ghost use Rattle.hm_machine.specs.Calls.{LoadRefuses};
 ghost use Rattle.hm_mem.specs.Memory.{flash_at};
 ghost use Rattle.hm_sched.specs.Schedule.{Sched, most_ticks};
 ghost use Rattle.hm_state.specs.Start.{reset_pc};

@@ -4,7 +4,7 @@ use Rattle.hm_isa.specs.declared.Vector.{Vector}
 use Rattle.hm_isa.specs.Code.{vector_code}
 use Rattle.hm_tokens.specs.Tokens.{tok}
 use Rattle.hm_textv_rows.specs.Rows.{HasTokens}
-use Rattle.hm_textv.proofs.ByCode.{other_row, the_row}
+use Rattle.hm_textv.proofs.ByCode.{no_row_else, the_row}
 use Rattle.hm_textv.proofs.Parsing.{no_code, the_code, too_large}
 use Rattle.hm_textv.proofs.row_with.Goals as goal
 
@@ -33,5 +33,5 @@ returns-clause-only c v has =
     let ts = map tok c.args.tokens.now in
     let coded = the_code ts c.in_ok-code.code c.in_ok-code.ensures.code in
     absurd
-    (other_row (λ (u : Vector). HasTokens u ts) (λ (u : Vector). vector_code u ≡ c.in_ok-code.code) c.in_ok-v.v coded c.in_ok-v.ensures.exact
+    (no_row_else (λ (u : Vector). HasTokens u ts) (λ (u : Vector). vector_code u ≡ c.in_ok-code.code) c.in_ok-v.v coded c.in_ok-v.ensures.exact
     (λ h. false≢true (sym c.if-is_text_of.false ∙ c.is_text_of.ensures.1 h)) v has)

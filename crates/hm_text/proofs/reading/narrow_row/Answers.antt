@@ -3,7 +3,7 @@ use Rattle.std.proofs.lemmas.Bool.{false≢true}
 use Rattle.hm_isa.specs.declared.Instr.{Instr}
 use Rattle.hm_isa.specs.Code.{halfwords}
 use Rattle.hm_tokens.specs.Tokens.{tok}
-use Rattle.hm_textv.proofs.ByCode.{other_row, the_row}
+use Rattle.hm_textv.proofs.ByCode.{no_row_else, the_row}
 use Rattle.hm_text.proofs.OneRow.{NarrowAt, narrow_halves, narrow_large, narrow_none}
 use Rattle.hm_text.proofs.reading.narrow_row.Goals as goal
 
@@ -35,5 +35,5 @@ returns-clause-only c i r e is =
     let ts = map tok c.args.tokens.now in
     let coded = narrow_halves ts c.args.pc c.args.address c.in_ok-code.code c.in_ok-code.ensures.code in
     absurd
-    (other_row (NarrowAt ts c.args.pc c.args.address) (λ (j : Instr). halfwords j ≡ c.in_ok-code.code ∷ []) c.in_ok-i.i coded c.in_ok-i.ensures.exact
+    (no_row_else (NarrowAt ts c.args.pc c.args.address) (λ (j : Instr). halfwords j ≡ c.in_ok-code.code ∷ []) c.in_ok-i.i coded c.in_ok-i.ensures.exact
     (λ h. false≢true (sym c.if-is_row_at.false ∙ c.is_row_at.ensures.1 h.2)) i (r, e, is))

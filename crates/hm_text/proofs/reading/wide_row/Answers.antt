@@ -3,7 +3,7 @@ use Rattle.std.proofs.lemmas.Bool.{false≢true}
 use Rattle.hm_isa.specs.declared.Instr.{Instr}
 use Rattle.hm_layout.specs.Wide.{HasWord}
 use Rattle.hm_tokens.specs.Tokens.{tok}
-use Rattle.hm_textv.proofs.ByCode.{other_row, the_row}
+use Rattle.hm_textv.proofs.ByCode.{no_row_else, the_row}
 use Rattle.hm_text.proofs.OneRow.{IsGivenIn, WideAt, wide_large, wide_none, wide_word}
 use Rattle.hm_text.proofs.reading.wide_row.Goals as goal
 
@@ -42,5 +42,5 @@ returns-clause-only c i r e is =
     record { printed = c.in_ok-code.ensures.code; other = c.in_ok-code.ensures.other } in
     let coded = wide_word ts c.args.pc c.args.address c.in_ok-code.code given in
     absurd
-    (other_row (WideAt ts c.args.pc c.args.address) (λ (j : Instr). HasWord j c.in_ok-code.code) c.in_ok-i.i coded c.in_ok-i.ensures.exact
+    (no_row_else (WideAt ts c.args.pc c.args.address) (λ (j : Instr). HasWord j c.in_ok-code.code) c.in_ok-i.i coded c.in_ok-i.ensures.exact
     (λ h. false≢true (sym c.if-is_row_at.false ∙ c.is_row_at.ensures.1 h.2)) i (r, e, is))
