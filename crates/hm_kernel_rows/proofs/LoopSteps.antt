@@ -157,4 +157,5 @@ module _ (t : ElementType) (listing : Listing) where
   pub stop : (v : View) (s : State) → Shows t v s → Stands t listing v.pc Stop → program.alone listing s ≡ Err (Halt (Break 0))
   stop v s shows stands =
       let k = stands.is in
-      ap (λ (x : Result Instr Fault). program.whole_here x s) (ap listing shows.pc ∙ stands.here ∙ ap Ok k.is) ∙ (λ j. program.broken (k.x_is j) s)
+      ap (λ (x : Result Instr Fault). program.whole_here x s) (ap listing shows.pc ∙ stands.here ∙ ap Ok k.is)
+      ∙ (λ j. program.breakpoint program.doing_alone (k.x_is j) s)
