@@ -7,13 +7,13 @@ ghost use Rattle.hm_isa.specs.Code.{mask_code, step_code};
 
 use hm_isa::{Below, Bit, ElementSize, QRegister, Register};
 
-/// The number in the bits of w from this place up, as many as `width`.
-pub fn bits(w: u32, position: u32, width: u32) -> u32
+/// The number in the bits of w from this place up, as many as `size`.
+pub fn bits(w: u32, position: u32, size: u32) -> u32
     requires position { position < 32 }
-    requires width { width < 32 }
-    ensures value { result ≡ w / 2 ^ position % 2 ^ width }
+    requires size { size < 32 }
+    ensures value { result ≡ w / 2 ^ position % 2 ^ size }
 {
-    (w >> position) % (1 << width)
+    (w >> position) % (1 << size)
 }
 
 /// The bit of w at this place.

@@ -34,7 +34,7 @@ use Rattle.hm_isa.specs.contracts.vectors.ScalarName as by_scalar_
 use Rattle.hm_isa.specs.contracts.vectors.ConstantShiftName as by_constant_
 use Rattle.hm_isa.specs.contracts.vectors.OneName as one_
 use Rattle.hm_isa.specs.contracts.vectors.ReverseName as reverse_
-use Rattle.hm_isa.specs.contracts.vectors.NarrowName as narrow_
+use Rattle.hm_isa.specs.contracts.vectors.NarrowingName as narrow_
 use Rattle.hm_isa.specs.contracts.vectors.Element as element_
 use Rattle.hm_isa.specs.contracts.vectors.OffsetsName as direction_
 use Rattle.hm_isa.specs.contracts.vectors.ExtremeName as extreme_

@@ -3,7 +3,7 @@
 ghost use Rattle.std.specs.Prelude.{◌≡◌, IfSome, IfNone};
 ghost use Rattle.hm_isa.specs.declared.vectors.OneName.{OneName};
 ghost use Rattle.hm_isa.specs.declared.vectors.ReverseName.{ReverseName};
-ghost use Rattle.hm_isa.specs.declared.vectors.NarrowName.{NarrowName};
+ghost use Rattle.hm_isa.specs.declared.vectors.NarrowingName.{NarrowingName};
 ghost use Rattle.hm_isa.specs.declared.vectors.LongBytes.{LongBytes};
 ghost use Rattle.hm_isa.specs.declared.vectors.LongHalves.{LongHalves};
 ghost use Rattle.hm_isa.specs.declared.vectors.LongFull.{LongFull};
@@ -20,8 +20,8 @@ ghost use Rattle.hm_isa.specs.Rules.{is_reversed};
 
 use hm_code_fields::{bit, bits, q_register, size_at};
 use hm_isa::{
-    Below, ElementSize, Invert, LongBytes, LongFull, LongHalves, NarrowName, OneElement, OneName,
-    QRegister, ReverseName, V12, V13, V14, V15, V16, Vector,
+    Below, ElementSize, Invert, LongBytes, LongFull, LongHalves, NarrowingName, OneElement,
+    OneName, QRegister, ReverseName, V12, V13, V14, V15, V16, Vector,
 };
 
 /// `vshllb`, `vshllt` of 8 bits by less than 8
@@ -342,28 +342,28 @@ pub fn encode_v15(r: &V15) -> u32
 }
 
 /// The operation of the row V16 whose code without its fields is this.
-fn narrow_name(base: u32) -> Option<NarrowName>
+fn narrow_name(base: u32) -> Option<NarrowingName>
     ensures found { IfSome result (λ x. narrow_base x ≡ base) }
-    ensures none { IfNone result ((x : NarrowName) → narrow_base x ≡ base → ⊥) }
+    ensures none { IfNone result ((x : NarrowingName) → narrow_base x ≡ base → ⊥) }
 {
     match base {
-        0xfe31_0e81 => Some(NarrowName::Plain),
-        0xee31_0e81 => Some(NarrowName::ToUnsigned),
-        0xee33_0e01 => Some(NarrowName::Signed),
-        0xfe33_0e01 => Some(NarrowName::Unsigned),
+        0xfe31_0e81 => Some(NarrowingName::Plain),
+        0xee31_0e81 => Some(NarrowingName::ToUnsigned),
+        0xee33_0e01 => Some(NarrowingName::Signed),
+        0xfe33_0e01 => Some(NarrowingName::Unsigned),
         _ => None,
     }
 }
 
 /// The code of a name of the row V16 without its fields.
-pub fn base_of_narrow(name: NarrowName) -> u32
+pub fn base_of_narrow(name: NarrowingName) -> u32
     ensures value { result ≡ narrow_base name }
 {
     match name {
-        NarrowName::Plain => 0xfe31_0e81,
-        NarrowName::ToUnsigned => 0xee31_0e81,
-        NarrowName::Signed => 0xee33_0e01,
-        NarrowName::Unsigned => 0xfe33_0e01,
+        NarrowingName::Plain => 0xfe31_0e81,
+        NarrowingName::ToUnsigned => 0xee31_0e81,
+        NarrowingName::Signed => 0xee33_0e01,
+        NarrowingName::Unsigned => 0xfe33_0e01,
     }
 }
 

@@ -6,7 +6,7 @@ use Rattle.std.proofs.lemmas.Int.{int_rem_euclid_is, ints}
 use Rattle.std.proofs.lemmas.Nat.{mod_below, mul-le}
 use Rattle.std.specs.Int.{int_rem_euclid}
 use Rattle.hm_isa.specs.declared.vectors.V16.{V16}
-use Rattle.hm_isa.specs.declared.vectors.NarrowName.{NarrowName}
+use Rattle.hm_isa.specs.declared.vectors.NarrowingName.{NarrowingName}
 use Rattle.hm_lane.specs.declared.lanes.Size.{Size}
 use Rattle.hm_lane.specs.declared.lanes.Size.TheVariants.{Byte, Half, Word}
 use Rattle.hm_lane.specs.Lanes.{bytes_of, lanes, merged, modulus, spread, unlanes, word_of}
@@ -63,23 +63,23 @@ upper_half a b n h i j =
     cc (e, f, g, l)
 
 -- THE NARROW ELEMENTS of one word
-abbrev narrowing_word : Bool → Bool → NarrowName → ℕ → ℕ → List ℕ
+abbrev narrowing_word : Bool → Bool → NarrowingName → ℕ → ℕ → List ℕ
 narrowing_word z odd f o x = bytes_of (word_of (narrowing_bytes z odd f (bytes_of o) (bytes_of x)))
 
-abbrev from_words : Bool → NarrowName → ℕ → ℕ → List ℕ
+abbrev from_words : Bool → NarrowingName → ℕ → ℕ → List ℕ
 from_words odd f o x = unlanes Half (placed odd (lanes Half (bytes_of o)) (map (narrowed f Word Half) (lanes Word (bytes_of x))))
 
-abbrev from_halves : Bool → NarrowName → ℕ → ℕ → List ℕ
+abbrev from_halves : Bool → NarrowingName → ℕ → ℕ → List ℕ
 from_halves odd f o x = unlanes Byte (placed odd (bytes_of o) (map (narrowed f Half Byte) (lanes Half (bytes_of x))))
 
-one_word : (z odd : Bool) (f : NarrowName) (o x : ℕ) → narrowing_word z odd f o x ≡ cond z (from_words odd f o x) (from_halves odd f o x)
+one_word : (z odd : Bool) (f : NarrowingName) (o x : ℕ) → narrowing_word z odd f o x ≡ cond z (from_words odd f o x) (from_halves odd f o x)
 one_word false false f o x = as_bytes _ _ _ _ (cut_below Byte _) (omega arith) (cut_below Byte _) (omega arith)
 one_word false true f o x = as_bytes _ _ _ _ (omega arith) (cut_below Byte _) (omega arith) (cut_below Byte _)
 one_word true false f o x = lower_half _ _ _ (cut_below Half _) (omega arith) (omega arith)
 one_word true true f o x = upper_half _ _ _ (omega arith) (omega arith) (cut_below Half _)
 
 -- of four
-pub four_words : (z odd : Bool) (f : NarrowName) (o x : ℕ → ℕ) →
+pub four_words : (z odd : Bool) (f : NarrowingName) (o x : ℕ → ℕ) →
     four (λ b. word_of (narrowing_bytes z odd f (bytes_of (o b)) (bytes_of (x b))))
     ≡ cond z (unlanes Half (placed odd (lanes Half (four o)) (map (narrowed f Word Half) (lanes Word (four x)))))
     (unlanes Byte (placed odd (lanes Byte (four o)) (map (narrowed f Half Byte) (lanes Half (four x)))))
@@ -89,7 +89,7 @@ four_words true odd f o x = λ j. one_word true odd f (o 0) (x 0) j ++ one_word 
     ++ one_word true odd f (o 3) (x 3) j
 
 -- THE TESTS of four words
-pub four_tests : (z odd : Bool) (f : NarrowName) (x : ℕ → ℕ) (s : State)
+pub four_tests : (z odd : Bool) (f : NarrowingName) (x : ℕ → ℕ) (s : State)
     → (let A : ℕ → Bool = λ b. any_both (active_at b s) (narrowing_tests z odd f (bytes_of (x b))) in
     any_both (predicate_at s)
     (cond z (spread Half (placed_tests odd (map (narrowing_outside f Word Half) (lanes Word (four x)))))

@@ -15,8 +15,8 @@ use Rattle.hm_isa.specs.declared.vectors.ReverseName.{ReverseName}
 use Rattle.hm_isa.specs.declared.vectors.ReverseName.TheVariants as rev
 use Rattle.hm_isa.specs.declared.vectors.V15.{V15}
 use Rattle.hm_isa.specs.declared.vectors.V16.{V16}
-use Rattle.hm_isa.specs.declared.vectors.NarrowName.{NarrowName}
-use Rattle.hm_isa.specs.declared.vectors.NarrowName.TheVariants as narrow
+use Rattle.hm_isa.specs.declared.vectors.NarrowingName.{NarrowingName}
+use Rattle.hm_isa.specs.declared.vectors.NarrowingName.TheVariants as narrow
 use Rattle.hm_isa.specs.declared.vectors.V17.{V17}
 use Rattle.hm_isa.specs.declared.vectors.OffsetsName.{OffsetsName}
 use Rattle.hm_isa.specs.declared.vectors.OffsetsName.TheVariants as offsets
@@ -87,33 +87,33 @@ constant_row r = words_row false r.d.value (λ b. []) (λ b slice. constant_new 
 
 -- NARROW ELEMENTS
 -- V16: whether an instruction saturates: VQMOVN and VQMOVUN do, and VMOVN does not
-abbrev pub narrowing_saturates : NarrowName → Bool
+abbrev pub narrowing_saturates : NarrowingName → Bool
 narrowing_saturates narrow.Plain = false
 narrowing_saturates n = true
 
 -- V16: whether the wide elements are unsigned: those of VQMOVN of unsigned elements
-abbrev pub takes_unsigned : NarrowName → Bool
+abbrev pub takes_unsigned : NarrowingName → Bool
 takes_unsigned narrow.Unsigned = true
 takes_unsigned n = false
 
 -- V16: whether the narrow elements are unsigned: those of VQMOVUN and of VQMOVN of unsigned elements
-abbrev pub gives_unsigned : NarrowName → Bool
+abbrev pub gives_unsigned : NarrowingName → Bool
 gives_unsigned narrow.Unsigned = true
 gives_unsigned narrow.ToUnsigned = true
 gives_unsigned n = false
 
 -- the narrow element of a wide one, and whether it saturates
-abbrev pub narrowed : NarrowName → Size → Size → ℕ → ℕ
+abbrev pub narrowed : NarrowingName → Size → Size → ℕ → ℕ
 narrowed f wide small x =
     let v = lane_value (takes_unsigned f) wide x in
     cut small (cond (narrowing_saturates f) (clamped (gives_unsigned f) small v) v)
 
 -- V16: whether a wide element is outside the range of the narrow one
-abbrev pub narrowing_outside : NarrowName → Size → Size → ℕ → Bool
+abbrev pub narrowing_outside : NarrowingName → Size → Size → ℕ → Bool
 narrowing_outside f wide small x = is_outside (gives_unsigned f) small (lane_value (takes_unsigned f) wide x)
 
 -- narrow elements in the lower or the upper part of the wide ones' places: of two halves or of the whole of an operand's four bytes
-abbrev pub narrowing_bytes : Bool → Bool → NarrowName → List ℕ → List ℕ → List ℕ
+abbrev pub narrowing_bytes : Bool → Bool → NarrowingName → List ℕ → List ℕ → List ℕ
 narrowing_bytes false false f (a ∷ b ∷ c ∷ d ∷ l) (p ∷ q ∷ r ∷ s ∷ v) = narrowed f Half Byte (p + 256 * q) ∷ b ∷ narrowed f Half Byte (r + 256 * s) ∷ d ∷ []
 narrowing_bytes false true f (a ∷ b ∷ c ∷ d ∷ l) (p ∷ q ∷ r ∷ s ∷ v) = a ∷ narrowed f Half Byte (p + 256 * q) ∷ c ∷ narrowed f Half Byte (r + 256 * s) ∷ []
 narrowing_bytes true false f (a ∷ b ∷ c ∷ d ∷ l) (p ∷ q ∷ r ∷ s ∷ v) =
@@ -123,7 +123,7 @@ narrowing_bytes true true f (a ∷ b ∷ c ∷ d ∷ l) (p ∷ q ∷ r ∷ s ∷
 narrowing_bytes z t f _ _ = []
 
 -- where they saturate
-abbrev pub narrowing_tests : Bool → Bool → NarrowName → List ℕ → List Bool
+abbrev pub narrowing_tests : Bool → Bool → NarrowingName → List ℕ → List Bool
 narrowing_tests false false f (p ∷ q ∷ r ∷ s ∷ v) =
     narrowing_outside f Half Byte (p + 256 * q) ∷ false ∷ narrowing_outside f Half Byte (r + 256 * s) ∷ false ∷ []
 narrowing_tests false true f (p ∷ q ∷ r ∷ s ∷ v) =

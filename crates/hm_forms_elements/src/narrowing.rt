@@ -12,44 +12,44 @@ ghost use Rattle.hm_forms_elements.specs.Forms.{narrowing_tests, takes_unsigned}
 
 use hm_base::{Places, note};
 use hm_beat::Touch;
-use hm_isa::{NarrowName, V16};
+use hm_isa::{NarrowingName, V16};
 use hm_kinds::{Shape, Written, active, finish_row, read, touch_row};
 use hm_lane::{Size, bytes, word};
 use hm_lane_fns::{any_both, clamped, cut, is_outside, lane_value, merge_active, word_place};
 use hm_regs::Regs;
 
 /// Whether the operation saturates.
-fn saturates(f: NarrowName) -> bool
+fn saturates(f: NarrowingName) -> bool
     ensures { result ≡ narrowing_saturates f }
 {
     match f {
-        NarrowName::Plain => false,
+        NarrowingName::Plain => false,
         _ => true,
     }
 }
 
 /// Whether it takes elements without a sign.
-fn takes_unsigned(f: NarrowName) -> bool
+fn takes_unsigned(f: NarrowingName) -> bool
     ensures { result ≡ takes_unsigned f }
 {
     match f {
-        NarrowName::Unsigned => true,
+        NarrowingName::Unsigned => true,
         _ => false,
     }
 }
 
 /// Whether it gives elements without a sign.
-fn gives_unsigned(f: NarrowName) -> bool
+fn gives_unsigned(f: NarrowingName) -> bool
     ensures { result ≡ gives_unsigned f }
 {
     match f {
-        NarrowName::Unsigned | NarrowName::ToUnsigned => true,
+        NarrowingName::Unsigned | NarrowingName::ToUnsigned => true,
         _ => false,
     }
 }
 
 /// The narrow element of a wide one.
-fn narrowed(f: NarrowName, wide: Size, small: Size, x: u32) -> u32
+fn narrowed(f: NarrowingName, wide: Size, small: Size, x: u32) -> u32
     requires { x < modulus wide }
     ensures value { result ≡ narrowed f wide small x }
     ensures below { result < modulus small }
@@ -63,7 +63,7 @@ fn narrowed(f: NarrowName, wide: Size, small: Size, x: u32) -> u32
 }
 
 /// Whether it saturates.
-fn outside(f: NarrowName, wide: Size, small: Size, x: u32) -> bool
+fn outside(f: NarrowingName, wide: Size, small: Size, x: u32) -> bool
     requires { x < modulus wide }
     ensures { result ≡ narrowing_outside f wide small x }
 {
@@ -75,7 +75,7 @@ fn outside(f: NarrowName, wide: Size, small: Size, x: u32) -> bool
 }
 
 /// Narrow elements in the lower or the upper part of the wide ones' places.
-fn narrowing_word(wide: bool, top: bool, f: NarrowName, old: u32, x: u32) -> u32
+fn narrowing_word(wide: bool, top: bool, f: NarrowingName, old: u32, x: u32) -> u32
     ensures { result ≡ word_of (narrowing_bytes wide top f (bytes_of old) (bytes_of x)) }
 {
     let [a, b, c, d] = bytes(old);
@@ -100,7 +100,7 @@ fn narrowing_word(wide: bool, top: bool, f: NarrowName, old: u32, x: u32) -> u32
 }
 
 /// Where they saturate.
-fn narrowing_tests(wide: bool, top: bool, f: NarrowName, x: u32) -> [bool; 4]
+fn narrowing_tests(wide: bool, top: bool, f: NarrowingName, x: u32) -> [bool; 4]
     ensures { result ≡ narrowing_tests wide top f (bytes_of x) }
 {
     if wide {

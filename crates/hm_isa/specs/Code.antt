@@ -118,8 +118,8 @@ use Rattle.hm_isa.specs.declared.vectors.ReverseName.{ReverseName}
 use Rattle.hm_isa.specs.declared.vectors.ReverseName.TheVariants as reverse_
 use Rattle.hm_isa.specs.declared.vectors.V14.{V14}
 use Rattle.hm_isa.specs.declared.vectors.V15.{V15}
-use Rattle.hm_isa.specs.declared.vectors.NarrowName.{NarrowName}
-use Rattle.hm_isa.specs.declared.vectors.NarrowName.TheVariants as narrow_
+use Rattle.hm_isa.specs.declared.vectors.NarrowingName.{NarrowingName}
+use Rattle.hm_isa.specs.declared.vectors.NarrowingName.TheVariants as narrow_
 use Rattle.hm_isa.specs.declared.vectors.V16.{V16}
 use Rattle.hm_isa.specs.declared.vectors.V17.{V17}
 use Rattle.hm_isa.specs.declared.vectors.Element.{Element}
@@ -641,7 +641,7 @@ abbrev pub code_v15 : V15 → ℕ
 code_v15 r = 0xef800050 + r.i.value ↑ 28 + r.i3.value ↑ 16 + r.d.value ↑ 13 + r.cm.value ↑ 8 + r.op.value ↑ 5 + r.i4.value
 
 -- V16: the code of VMOVN, VQMOVUN, and VQMOVN of signed and of unsigned elements, all else 0 (DDI0553, "VMOVN", "VQMOVUN" and "VQMOVN")
-abbrev pub narrow_base : NarrowName → ℕ
+abbrev pub narrow_base : NarrowingName → ℕ
 narrow_base narrow_.Plain = 0xfe310e81
 narrow_base narrow_.ToUnsigned = 0xee310e81
 narrow_base narrow_.Signed = 0xee330e01

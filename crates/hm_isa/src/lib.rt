@@ -140,7 +140,7 @@ pub use vectors::LongDot;
 pub use vectors::LongFull;
 pub use vectors::LongHalves;
 pub use vectors::LongSum;
-pub use vectors::NarrowName;
+pub use vectors::NarrowingName;
 pub use vectors::Offsets;
 pub use vectors::OffsetsName;
 pub use vectors::OneElement;

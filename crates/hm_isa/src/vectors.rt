@@ -531,7 +531,7 @@ pub struct V15 {
 
 /// The operation of the row V16.
 #[derive(Clone, Copy)]
-pub enum NarrowName {
+pub enum NarrowingName {
     /// `vmovn`
     Plain,
     /// `vqmovun`
@@ -546,7 +546,7 @@ pub enum NarrowName {
 /// "VQMOVUN".
 #[derive(Clone, Copy)]
 pub struct V16 {
-    pub name: NarrowName,
+    pub name: NarrowingName,
     /// 0 for elements of 16 bits to 8, 1 for 32 to 16.
     pub z: Bit,
     /// 1 for the upper part of each wide element.

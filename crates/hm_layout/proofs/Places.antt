@@ -101,19 +101,19 @@ pieces [] x = []
 pieces (p ∷ []) x = x ∷ []
 pieces (p ∷ q ∷ ps) x = x % 2 ^ p.size ∷ pieces (q ∷ ps) (x / 2 ^ p.size)
 
-abbrev pub total_width : List Place → ℕ
-total_width [] = 0
-total_width (p ∷ []) = p.size
-total_width (p ∷ q ∷ ps) = total_width (q ∷ ps) + p.size
+abbrev pub total_size : List Place → ℕ
+total_size [] = 0
+total_size (p ∷ []) = p.size
+total_size (p ∷ q ∷ ps) = total_size (q ∷ ps) + p.size
 
 high_fits : (x w t : ℕ) → x < 2 ^ (t + w) → x / 2 ^ w < 2 ^ t
 high_fits x w t h = (div-lt_iff_lt-mul (pow_pos w)).1 (rw (← pow-add 2 t w) h)
 
-pub pieces_fit : (ps : List Place) (x : ℕ) → x < 2 ^ total_width ps → Fits ps (pieces ps x)
+pub pieces_fit : (ps : List Place) (x : ℕ) → x < 2 ^ total_size ps → Fits ps (pieces ps x)
 pieces_fit [] x h = tt
 pieces_fit (p ∷ []) x h = (h, tt)
 pieces_fit (p ∷ q ∷ ps) x h =
-    (mod-lt x (pow_pos p.size), pieces_fit (q ∷ ps) (x / 2 ^ p.size) (high_fits x p.size (total_width (q ∷ ps)) h))
+    (mod-lt x (pow_pos p.size), pieces_fit (q ∷ ps) (x / 2 ^ p.size) (high_fits x p.size (total_size (q ∷ ps)) h))
 
 abbrev pub head_or : List ℕ → ℕ
 head_or [] = 0
@@ -123,14 +123,14 @@ abbrev pub rest_of : List ℕ → List ℕ
 rest_of [] = []
 rest_of (x ∷ xs) = xs
 
-pub pieces_one : (ps : List Place) (x y : ℕ) → x < 2 ^ total_width ps → y < 2 ^ total_width ps → pieces ps x ≡ pieces ps y → x ≡ y
+pub pieces_one : (ps : List Place) (x y : ℕ) → x < 2 ^ total_size ps → y < 2 ^ total_size ps → pieces ps x ≡ pieces ps y → x ≡ y
 pieces_one [] x y h k e = omega arith
 pieces_one (p ∷ []) x y h k e = ap head_or e
 pieces_one (p ∷ q ∷ ps) x y h k e =
     let low : x % 2 ^ p.size ≡ y % 2 ^ p.size = ap head_or e in
     let high : x / 2 ^ p.size ≡ y / 2 ^ p.size =
-    pieces_one (q ∷ ps) (x / 2 ^ p.size) (y / 2 ^ p.size) (high_fits x p.size (total_width (q ∷ ps)) h)
-    (high_fits y p.size (total_width (q ∷ ps)) k) (ap rest_of e) in
+    pieces_one (q ∷ ps) (x / 2 ^ p.size) (y / 2 ^ p.size) (high_fits x p.size (total_size (q ∷ ps)) h)
+    (high_fits y p.size (total_size (q ∷ ps)) k) (ap rest_of e) in
     sym (mod-add-div' x (2 ^ p.size)) ∙ (λ i. low i + high i * 2 ^ p.size) ∙ mod-add-div' y (2 ^ p.size)
 
 -- where lists begin with the pieces at the same places, both parts are told

@@ -11,7 +11,7 @@ use Rattle.hm_layout.proofs.Same.{same_below, same_struct}
 use Rattle.hm_isa.specs.declared.fields.Below.{Below}
 use Rattle.hm_layout.proofs.Bits.{Matches, bits_of, bits_of_lem, both_left, both_right}
 use Rattle.hm_layout.proofs.Search.{Decided, Tried, try_below, try_unit, try_pair, try_names, try_struct}
-use Rattle.hm_layout.proofs.Places.{Place, place, Fits, placed, are_disjoint, fills, are_clear, fills_lem, digits, digits_lem, pieces, total_width, pieces_fit}
+use Rattle.hm_layout.proofs.Places.{Place, place, Fits, placed, are_disjoint, fills, are_clear, fills_lem, digits, digits_lem, pieces, total_size, pieces_fit}
 use Rattle.hm_layout.proofs.Places.{pieces_one, cut, cut_digits, head_or, fits_both}
 use Rattle.hm_layout.proofs.Coded.{Digit, digit, Spared, Kind, Has, Member, member_map, pairwise, one_name, Coded}
 
@@ -65,7 +65,7 @@ places_of (f ∷ fs) l = (l.0).spread ++ places_of fs l.1
 -- each limit fits in the field's bits
 abbrev pub do_fit : (fs : List data_field.Field) → Layout fs → Bool
 do_fit [] l = true
-do_fit (f ∷ fs) l = nat_le (l.0).limit (2 ^ total_width (l.0).spread) && do_fit fs l.1
+do_fit (f ∷ fs) l = nat_le (l.0).limit (2 ^ total_size (l.0).spread) && do_fit fs l.1
 
 below_width : (x limit m : ℕ) → nat_le limit m ≡ true → x < limit → x < m
 below_width x limit m e h = grind (arith, nat_tests)

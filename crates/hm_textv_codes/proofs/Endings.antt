@@ -6,8 +6,8 @@ use Rattle.hm_isa.specs.declared.vectors.ComplexSumName.{ComplexSumName}
 use Rattle.hm_isa.specs.declared.vectors.ComplexSumName.TheVariants as complex_sum
 use Rattle.hm_isa.specs.declared.vectors.ConstantShiftName.{ConstantShiftName}
 use Rattle.hm_isa.specs.declared.vectors.ConstantShiftName.TheVariants as by_constant
-use Rattle.hm_isa.specs.declared.vectors.NarrowName.{NarrowName}
-use Rattle.hm_isa.specs.declared.vectors.NarrowName.TheVariants as narrow_
+use Rattle.hm_isa.specs.declared.vectors.NarrowingName.{NarrowingName}
+use Rattle.hm_isa.specs.declared.vectors.NarrowingName.TheVariants as narrow_
 use Rattle.hm_isa.specs.declared.vectors.OneName.{OneName}
 use Rattle.hm_isa.specs.declared.vectors.OneName.TheVariants as one
 use Rattle.hm_isa.specs.declared.vectors.ScalarName.{ScalarName}
@@ -100,7 +100,7 @@ suffix_whole (suc (suc op)) lt = absurd (omega arith)
 suffix_whole op lt = record { is = refl; bare = refl; sign = refl; size = refl }
 
 -- V16
-pub suffix_narrow : (name : NarrowName) {z : ℕ} → z < 2 → Suffix (narrow_suffix name z) false (narrow_sign name) (z + 1)
+pub suffix_narrow : (name : NarrowingName) {z : ℕ} → z < 2 → Suffix (narrow_suffix name z) false (narrow_sign name) (z + 1)
 suffix_narrow narrow_.Plain lt = suffix_integer (omega arith)
 suffix_narrow narrow_.Unsigned lt = suffix_unsigned (omega arith)
 suffix_narrow name lt = suffix_signed (omega arith)

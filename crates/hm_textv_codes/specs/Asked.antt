@@ -4,8 +4,8 @@ use Rattle.std.specs.Prelude.{if◌then◌else◌, nat_lt}
 use Rattle.hm_isa.specs.declared.Vector.{Vector}
 use Rattle.hm_isa.specs.declared.Vector.TheVariants as vector
 use Rattle.hm_isa.specs.declared.vectors.BitwiseName.TheVariants as bitwise
-use Rattle.hm_isa.specs.declared.vectors.NarrowName.{NarrowName}
-use Rattle.hm_isa.specs.declared.vectors.NarrowName.TheVariants as narrow_
+use Rattle.hm_isa.specs.declared.vectors.NarrowingName.{NarrowingName}
+use Rattle.hm_isa.specs.declared.vectors.NarrowingName.TheVariants as narrow_
 use Rattle.hm_isa.specs.declared.vectors.V12.TheVariants as v12
 use Rattle.hm_isa.specs.declared.vectors.V13.TheVariants as v13
 use Rattle.hm_isa.specs.declared.vectors.V15.{V15}
@@ -134,7 +134,7 @@ constant_given op cm d x =
     else two_given 0 (if nat_eq op 0 then 0 else 3) d x
 
 -- V16: 1 where the elements that are read are unsigned (DDI0553, "VQMOVN")
-abbrev pub narrow_sign : NarrowName → ℕ
+abbrev pub narrow_sign : NarrowingName → ℕ
 narrow_sign narrow_.Unsigned = 1
 narrow_sign name = 0
 

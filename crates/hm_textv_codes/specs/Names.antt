@@ -24,8 +24,8 @@ use Rattle.hm_isa.specs.declared.vectors.OneName.{OneName}
 use Rattle.hm_isa.specs.declared.vectors.OneName.TheVariants as one
 use Rattle.hm_isa.specs.declared.vectors.ReverseName.{ReverseName}
 use Rattle.hm_isa.specs.declared.vectors.ReverseName.TheVariants as reverse_
-use Rattle.hm_isa.specs.declared.vectors.NarrowName.{NarrowName}
-use Rattle.hm_isa.specs.declared.vectors.NarrowName.TheVariants as narrow_
+use Rattle.hm_isa.specs.declared.vectors.NarrowingName.{NarrowingName}
+use Rattle.hm_isa.specs.declared.vectors.NarrowingName.TheVariants as narrow_
 use Rattle.hm_isa.specs.declared.vectors.OffsetsName.{OffsetsName}
 use Rattle.hm_isa.specs.declared.vectors.OffsetsName.TheVariants as offsets
 use Rattle.hm_isa.specs.declared.vectors.ExtremeName.{ExtremeName}
@@ -107,7 +107,7 @@ abbrev pub constant_in : List ℕ → Option ℕ
 constant_in s = named constant_mnemonic (0 ∷ 1 ∷ 2 ∷ 3 ∷ []) s
 
 -- V16: the name and the part of VMOVN, VQMOVUN and VQMOVN, by the mnemonic; VQMOVN of unsigned elements differs in its sign alone
-abbrev pub narrow_in : List ℕ → Option (NarrowName × ℕ)
+abbrev pub narrow_in : List ℕ → Option (NarrowingName × ℕ)
 narrow_in s = named_with_bit narrow_mnemonic (narrow_.Plain ∷ narrow_.ToUnsigned ∷ narrow_.Signed ∷ []) s
 
 -- V24 to V27: 1 for a load, and the size in memory of the elements of VSTRB, VSTRH, VSTRW, VLDRB, VLDRH and VLDRW, by the mnemonic

@@ -15,7 +15,7 @@ ghost use Rattle.hm_textv_codes.specs.Names.{offsets_names, one_names, reverse_n
 
 use hm_isa::{
     AddName, BitwiseName, CarryName, ComplexSumName, ConstantShiftName, DoublingName, ExtremeName,
-    HighName, NarrowName, OffsetsName, OneName, ReverseName, ScalarName, SignedName,
+    HighName, NarrowingName, OffsetsName, OneName, ReverseName, ScalarName, SignedName,
     VectorShiftName,
 };
 use hm_text_rows::named;
@@ -207,16 +207,16 @@ pub fn constant_in(mnemonic: &[u8]) -> Option<u32>
 }
 
 /// The name and the part of a row V16.
-pub fn narrow_in(mnemonic: &[u8]) -> Option<(NarrowName, u8)>
+pub fn narrow_in(mnemonic: &[u8]) -> Option<(NarrowingName, u8)>
     ensures { result ≡ narrow_in mnemonic.now }
 {
     let names = &[
-        ((NarrowName::Plain, 0), "vmovnb"),
-        ((NarrowName::Plain, 1), "vmovnt"),
-        ((NarrowName::ToUnsigned, 0), "vqmovunb"),
-        ((NarrowName::ToUnsigned, 1), "vqmovunt"),
-        ((NarrowName::Signed, 0), "vqmovnb"),
-        ((NarrowName::Signed, 1), "vqmovnt"),
+        ((NarrowingName::Plain, 0), "vmovnb"),
+        ((NarrowingName::Plain, 1), "vmovnt"),
+        ((NarrowingName::ToUnsigned, 0), "vqmovunb"),
+        ((NarrowingName::ToUnsigned, 1), "vqmovunt"),
+        ((NarrowingName::Signed, 0), "vqmovnb"),
+        ((NarrowingName::Signed, 1), "vqmovnt"),
     ];
     named(names, mnemonic)
 }

@@ -24,8 +24,8 @@ use Rattle.hm_isa.specs.declared.vectors.OneName.{OneName}
 use Rattle.hm_isa.specs.declared.vectors.OneName.TheVariants as one
 use Rattle.hm_isa.specs.declared.vectors.ReverseName.{ReverseName}
 use Rattle.hm_isa.specs.declared.vectors.ReverseName.TheVariants as reverse_
-use Rattle.hm_isa.specs.declared.vectors.NarrowName.{NarrowName}
-use Rattle.hm_isa.specs.declared.vectors.NarrowName.TheVariants as narrow_
+use Rattle.hm_isa.specs.declared.vectors.NarrowingName.{NarrowingName}
+use Rattle.hm_isa.specs.declared.vectors.NarrowingName.TheVariants as narrow_
 use Rattle.hm_isa.specs.declared.vectors.OffsetsName.{OffsetsName}
 use Rattle.hm_isa.specs.declared.vectors.OffsetsName.TheVariants as offsets
 use Rattle.hm_isa.specs.declared.vectors.ExtremeName.{ExtremeName}
@@ -175,7 +175,7 @@ constant_merge_mnemonic op = either op (codes "vorr") (codes "vbic")
 
 -- V16: the mnemonic of each name, VMOVN, VQMOVUN and VQMOVN, with b for the lower part of each wide element, or t for the upper
 -- (DDI0553, "VMOVN", "VQMOVN" and "VQMOVUN")
-abbrev pub narrow_mnemonic : NarrowName → ℕ → List ℕ
+abbrev pub narrow_mnemonic : NarrowingName → ℕ → List ℕ
 narrow_mnemonic narrow_.Plain t = cond (nat_eq t 0) (codes "vmovnb") (codes "vmovnt")
 narrow_mnemonic narrow_.ToUnsigned t = cond (nat_eq t 0) (codes "vqmovunb") (codes "vqmovunt")
 narrow_mnemonic narrow_.Signed t = cond (nat_eq t 0) (codes "vqmovnb") (codes "vqmovnt")
@@ -269,7 +269,7 @@ one_suffix one.Clz z = integer z
 one_suffix name z = signed z
 
 -- V16: the size of the wide elements, by the bit that is 0 where they have 16 bits, and their type (DDI0553, "VMOVN", "VQMOVN" and "VQMOVUN")
-abbrev pub narrow_suffix : NarrowName → ℕ → List ℕ
+abbrev pub narrow_suffix : NarrowingName → ℕ → List ℕ
 narrow_suffix narrow_.Plain z = integer (z + 1)
 narrow_suffix narrow_.ToUnsigned z = signed (z + 1)
 narrow_suffix narrow_.Signed z = signed (z + 1)

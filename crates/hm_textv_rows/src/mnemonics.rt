@@ -9,8 +9,8 @@ ghost use Rattle.hm_textv_rows.specs.Mnemonics.{wrapped_mnemonic};
 
 use hm_isa::{
     AddName, Below, Bit, BitwiseName, CarryName, ComplexSumName, ConstantShiftName, DoublingName,
-    ExtremeName, HighName, NarrowName, OffsetsName, OneName, ReverseName, ScalarName, SignedName,
-    VectorShiftName,
+    ExtremeName, HighName, NarrowingName, OffsetsName, OneName, ReverseName, ScalarName,
+    SignedName, VectorShiftName,
 };
 
 /// The mnemonic of a row V1.
@@ -211,16 +211,16 @@ pub fn constant_merge_mnemonic(op: Bit) -> &'static str
 }
 
 /// The mnemonic of a row V16: with b for the lower part of each wide element, or t for the upper.
-pub fn narrow_mnemonic(name: NarrowName, t: Bit) -> &'static str
+pub fn narrow_mnemonic(name: NarrowingName, t: Bit) -> &'static str
     ensures { result.now ≡ narrow_mnemonic name t.value }
 {
     match (name, t.get() == 0) {
-        (NarrowName::Plain, true) => "vmovnb",
-        (NarrowName::Plain, false) => "vmovnt",
-        (NarrowName::ToUnsigned, true) => "vqmovunb",
-        (NarrowName::ToUnsigned, false) => "vqmovunt",
-        (NarrowName::Signed | NarrowName::Unsigned, true) => "vqmovnb",
-        (NarrowName::Signed | NarrowName::Unsigned, false) => "vqmovnt",
+        (NarrowingName::Plain, true) => "vmovnb",
+        (NarrowingName::Plain, false) => "vmovnt",
+        (NarrowingName::ToUnsigned, true) => "vqmovunb",
+        (NarrowingName::ToUnsigned, false) => "vqmovunt",
+        (NarrowingName::Signed | NarrowingName::Unsigned, true) => "vqmovnb",
+        (NarrowingName::Signed | NarrowingName::Unsigned, false) => "vqmovnt",
     }
 }
 

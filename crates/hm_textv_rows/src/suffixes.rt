@@ -6,7 +6,7 @@ ghost use Rattle.hm_textv_rows.specs.Mnemonics.{scalar_suffix};
 ghost use Rattle.hm_textv_rows.specs.Mnemonics.{signed, size_number, complex_sum_suffix, unsigned};
 
 use hm_isa::{
-    Below, Bit, ComplexSumName, ConstantShiftName, Element, ElementSize, NarrowName, OneName,
+    Below, Bit, ComplexSumName, ConstantShiftName, Element, ElementSize, NarrowingName, OneName,
     ScalarName,
 };
 use hm_text_rows::element_suffix;
@@ -119,13 +119,13 @@ pub fn one_suffix(name: OneName, z: ElementSize) -> &'static str
 }
 
 /// Of a row V16: the size of the wide elements.
-pub fn narrow_suffix(name: NarrowName, z: Bit) -> &'static str
+pub fn narrow_suffix(name: NarrowingName, z: Bit) -> &'static str
     ensures { result.now ≡ narrow_suffix name z.value }
 {
     match name {
-        NarrowName::Plain => integer(z.get() + 1),
-        NarrowName::ToUnsigned | NarrowName::Signed => signed(z.get() + 1),
-        NarrowName::Unsigned => unsigned(z.get() + 1),
+        NarrowingName::Plain => integer(z.get() + 1),
+        NarrowingName::ToUnsigned | NarrowingName::Signed => signed(z.get() + 1),
+        NarrowingName::Unsigned => unsigned(z.get() + 1),
     }
 }
 

@@ -1,5 +1,5 @@
 use Rattle.std.proofs.Common.{◌≡◌, ℕ, ◌+◌, ◌*◌, ◌/◌, ◌%◌, ◌^◌, ◌<◌, Bool, true, false, [], ◌∷◌, arith, sym, ◌∙◌}
-use Rattle.hm_isa.specs.declared.vectors.NarrowName.{NarrowName}
+use Rattle.hm_isa.specs.declared.vectors.NarrowingName.{NarrowingName}
 use Rattle.hm_lane.specs.declared.lanes.Size.TheVariants.{Byte, Half}
 use Rattle.hm_lane.specs.Lanes.{bytes_of}
 use Rattle.hm_forms_elements.specs.Forms.{narrowing_outside, narrowing_tests}
@@ -12,12 +12,12 @@ high : (x : ℕ) → x < 2 ^ 32 → x / 65536 ≡ x / 65536 % 256 + 256 * (x / 1
 high x h = omega arith
 
 -- the tests of the two halves of a word are those of its bytes
-lower : (f : NarrowName) (x : ℕ) (p q : Bool) → x < 2 ^ 32 → p ≡ narrowing_outside f Half Byte (x % 65536) → q ≡ narrowing_outside f Half Byte (x / 65536)
+lower : (f : NarrowingName) (x : ℕ) (p q : Bool) → x < 2 ^ 32 → p ≡ narrowing_outside f Half Byte (x % 65536) → q ≡ narrowing_outside f Half Byte (x / 65536)
     → p ∷ false ∷ q ∷ false ∷ [] ≡ narrowing_tests false false f (bytes_of x)
 lower f x p q h d e = (λ j. d j ∷ false ∷ e j ∷ false ∷ [])
     ∙ (λ j. narrowing_outside f Half Byte (low x j) ∷ false ∷ narrowing_outside f Half Byte (high x h j) ∷ false ∷ [])
 
-upper : (f : NarrowName) (x : ℕ) (p q : Bool) → x < 2 ^ 32 → p ≡ narrowing_outside f Half Byte (x % 65536) → q ≡ narrowing_outside f Half Byte (x / 65536)
+upper : (f : NarrowingName) (x : ℕ) (p q : Bool) → x < 2 ^ 32 → p ≡ narrowing_outside f Half Byte (x % 65536) → q ≡ narrowing_outside f Half Byte (x / 65536)
     → false ∷ p ∷ false ∷ q ∷ [] ≡ narrowing_tests false true f (bytes_of x)
 upper f x p q h d e = (λ j. false ∷ d j ∷ false ∷ e j ∷ [])
     ∙ (λ j. false ∷ narrowing_outside f Half Byte (low x j) ∷ false ∷ narrowing_outside f Half Byte (high x h j) ∷ [])
