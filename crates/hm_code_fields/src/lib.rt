@@ -1,7 +1,8 @@
 //! The fields of codes of two halfwords, each by the place of its lowest bit: read, and placed.
 #![tactic(auto)]
 
-ghost use Rattle.std.specs.Prelude.{◌≡◌, ◌≢◌, ◌<◌, ◌+◌, ◌*◌, ◌/◌, ◌%◌, ◌^◌, ◌⊎◌, MatchOption, IfSome, IfNone};
+ghost use Rattle.std.specs.Prelude.{◌≡◌, ◌≢◌, ◌<◌, ◌+◌, ◌*◌, ◌/◌, ◌%◌, ◌^◌, ◌⊎◌, ℕ, Bool, ◌||◌, nat_eq, IsTrue, MatchOption, IfSome, IfNone};
+ghost use Rattle.hm_code_fields.specs.Names.{FindsNames, TellsSigns};
 ghost use Rattle.hm_isa.specs.Rules.{is_general};
 ghost use Rattle.hm_isa.specs.Code.{mask_code, step_code};
 
@@ -64,6 +65,31 @@ pub fn general(w: u32, position: u32) -> Option<Register>
         return None;
     }
     Some(Below::new(r))
+}
+
+/// The name and bit 28 of a code without its other fields, in a row where that bit says of some names whether elements are signed, and is
+/// a bit of the other names' own codes: `name_of` finds a name by its code without fields, and `says_sign` tells of which it says so.
+pub fn signed_name<N: Copy, F: Fn(u32) -> Option<N>, G: Fn(N) -> bool>(
+    rest: u32,
+    name_of: F,
+    says_sign: G,
+) -> Option<(N, Bit)>
+    requires finds { F.IsAlwaysCallable name_of }
+    requires tells { G.IsAlwaysCallable says_sign }
+    ensures found { (base : N → ℕ) → FindsNames base (F.post name_of) → IfSome result (λ p. base p.0 + p.1.value * 2 ^ 28 ≡ rest) }
+    ensures signs { (has_sign : N → Bool) → TellsSigns has_sign (G.post says_sign) → IfSome result (λ p. IsTrue (has_sign p.0 || nat_eq p.1.value 0)) }
+    ensures none { (base : N → ℕ) (has_sign : N → Bool) → FindsNames base (F.post name_of) → TellsSigns has_sign (G.post says_sign)
+        → IfNone result ((x : N) (u : ℕ) → u < 2 → IsTrue (has_sign x || nat_eq u 0) → base x + u * 2 ^ 28 ≡ rest → ⊥) }
+{
+    if let Some(name) = name_of(rest) {
+        return Some((name, Below::new(0)));
+    }
+    let name = name_of(rest.checked_sub(1 << 28)?)?;
+    if says_sign(name) {
+        Some((name, Below::new(1)))
+    } else {
+        None
+    }
 }
 
 /// Three vector registers, where they stand in a code: n at bit 17, d at bit 13 and m at bit 1.

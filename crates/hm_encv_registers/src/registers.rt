@@ -1,6 +1,6 @@
 //! Rows of a vector and core registers.
 
-ghost use Rattle.std.specs.Prelude.{◌≡◌, ◌<◌, ◌+◌, ◌*◌, ◌^◌, ℕ, IsTrue, IfSome, IfNone};
+ghost use Rattle.std.specs.Prelude.{◌≡◌, ◌<◌, ◌+◌, ◌*◌, ◌^◌, ℕ, Some, IsTrue, IfSome, IfNone};
 ghost use Rattle.hm_isa.specs.declared.vectors.ScalarName.{ScalarName};
 ghost use Rattle.hm_isa.specs.declared.vectors.Element.{Element};
 ghost use Rattle.hm_isa.specs.declared.vectors.OffsetsName.{OffsetsName};
@@ -12,7 +12,7 @@ ghost use Rattle.hm_isa.specs.Code.{scalar_base, dup_base, offsets_base};
 ghost use Rattle.hm_isa.specs.Code.{code_v10, code_v17, code_v18, code_v19, vector_code};
 ghost use Rattle.hm_isa.specs.Rules.{has_sign, is_signed_by};
 
-use hm_code_fields::{bit, bits, general, place_step, q_register, size_at, step};
+use hm_code_fields::{bit, bits, general, place_step, q_register, signed_name, size_at, step};
 use hm_isa::{
     Below, Bit, Element, Offsets, OffsetsName, ScalarName, V10, V17, V18, V19, Vector,
     WrappedOffsets,
@@ -21,7 +21,7 @@ use hm_isa::{
 /// The operation of the row V10 whose code without its fields is this.
 fn scalar_name(base: u32) -> Option<ScalarName>
     ensures found { IfSome result (λ x. scalar_base x ≡ base) }
-    ensures none { IfNone result ((x : ScalarName) → scalar_base x ≡ base → ⊥) }
+    ensures each { (x : ScalarName) → scalar_base x ≡ base → result ≡ Some x }
 {
     match base {
         0xee01_0f40 => Some(ScalarName::Add),
@@ -79,22 +79,7 @@ fn signed_scalar(rest: u32) -> Option<(ScalarName, Bit)>
     ensures signs { IfSome result (λ p. IsTrue (is_signed_by p.0 p.1.value)) }
     ensures none { IfNone result ((x : ScalarName) (u : ℕ) → u < 2 → IsTrue (is_signed_by x u) → scalar_base x + u * 2 ^ 28 ≡ rest → ⊥) }
 {
-    if let Some(name) = scalar_name(rest) {
-        return Some((name, Below::new(0)));
-    }
-    if rest < 0x1000_0000 {
-        return None;
-    }
-    match scalar_name(rest - 0x1000_0000) {
-        Some(name) => {
-            if says_sign(name) {
-                Some((name, Below::new(1)))
-            } else {
-                None
-            }
-        }
-        None => None,
-    }
+    signed_name(rest, scalar_name, says_sign)
 }
 
 /// Operations of elements and a core register

@@ -1,18 +1,18 @@
 //! The row of shifts by a constant.
 
-ghost use Rattle.std.specs.Prelude.{◌≡◌, ◌<◌, ◌+◌, ◌*◌, ◌/◌, ◌%◌, ◌^◌, ℕ, IsTrue, IfSome, IfNone};
+ghost use Rattle.std.specs.Prelude.{◌≡◌, ◌<◌, ◌+◌, ◌*◌, ◌/◌, ◌%◌, ◌^◌, ℕ, Some, IsTrue, IfSome, IfNone};
 ghost use Rattle.hm_isa.specs.declared.vectors.ConstantShiftName.{ConstantShiftName};
 ghost use Rattle.hm_isa.specs.declared.vectors.V11.{V11};
 ghost use Rattle.hm_isa.specs.Code.{constant_shift_base, code_v11};
 ghost use Rattle.hm_isa.specs.Rules.{has_size, is_shifted_by, shift_has_sign};
 
-use hm_code_fields::{bit, bits, q_register};
+use hm_code_fields::{bit, bits, q_register, signed_name};
 use hm_isa::{Below, Bit, ConstantShiftName, V11};
 
 /// The operation of the row V11 whose code without its fields is this.
 fn shift_name(base: u32) -> Option<ConstantShiftName>
     ensures found { IfSome result (λ x. constant_shift_base x ≡ base) }
-    ensures none { IfNone result ((x : ConstantShiftName) → constant_shift_base x ≡ base → ⊥) }
+    ensures each { (x : ConstantShiftName) → constant_shift_base x ≡ base → result ≡ Some x }
 {
     match base {
         0xef80_0050 => Some(ConstantShiftName::Shr),
@@ -57,22 +57,7 @@ fn signed_shift(rest: u32) -> Option<(ConstantShiftName, Bit)>
     ensures signs { IfSome result (λ p. IsTrue (is_shifted_by p.0 p.1.value)) }
     ensures none { IfNone result ((x : ConstantShiftName) (u : ℕ) → u < 2 → IsTrue (is_shifted_by x u) → constant_shift_base x + u * 2 ^ 28 ≡ rest → ⊥) }
 {
-    if let Some(name) = shift_name(rest) {
-        return Some((name, Below::new(0)));
-    }
-    if rest < 0x1000_0000 {
-        return None;
-    }
-    match shift_name(rest - 0x1000_0000) {
-        Some(name) => {
-            if says_sign(name) {
-                Some((name, Below::new(1)))
-            } else {
-                None
-            }
-        }
-        None => None,
-    }
+    signed_name(rest, shift_name, says_sign)
 }
 
 /// The size and the shift in w, or None where they are of no size.

@@ -19,10 +19,11 @@ op_text op.And = codes "and"
 op_text op.Or = codes "or"
 op_text op.Xor = codes "xor"
 
--- the brackets of an operation
+-- the bracket that opens an operation
 abbrev pub open_bracket : ℕ
 open_bracket = 40
 
+-- the bracket that closes it
 abbrev pub close_bracket : ℕ
 close_bracket = 41
 

@@ -1,8 +1,7 @@
 -- What a beat that loads fills words with, by what stands in a state.
-use Rattle.std.proofs.Common.{◌≡◌, ℕ, zero, suc, ◌+◌, ◌*◌, ◌%◌, ◌^◌, ◌<◌, false, cond, eqb, List, [], ◌∷◌, ◌++◌, drop, get_or, length, map, refl, ◌∙◌, ap}
+use Rattle.std.proofs.Common.{◌≡◌, ℕ, zero, suc, ◌+◌, ◌%◌, ◌^◌, ◌<◌, false, List, [], ◌∷◌, ◌++◌, drop, get_or, length, map, refl, ◌∙◌, ap}
 use Rattle.std.proofs.Common.{subst, arith}
 use Rattle.std.proofs.lemmas.List.{get_or-map}
-use Rattle.hm_base.specs.Bits.{put_field}
 use Rattle.hm_base.specs.declared.Place.{Place}
 use Rattle.hm_base.specs.declared.Place.TheVariants.{R, QWord}
 use Rattle.hm_regs.specs.Writes.{write}
@@ -13,16 +12,12 @@ use Rattle.hm_beat.specs.Touches.{span_bytes}
 use Rattle.hm_beat.proofs.Chained.{Off}
 use Rattle.hm_kinds.specs.Row.{numbers}
 use Rattle.hm_moves.specs.declared.elements.Element.{Element}
+use Rattle.hm_moves.specs.Coded.{laid_all}
 use Rattle.hm_moves.specs.Moves.{Moves, bytes_of_elements, as_loaded, filled, laid, little_endian, byte_count, words_from}
 use Rattle.hm_moves.specs.Ways.{each_from}
 use Rattle.hm_moves.specs.Wholes.{read_at}
 
 -- WHAT IS READ
--- word j with elements laid into it, by the numbers that they are loaded as
-abbrev pub laid_all : Size → ℕ → List Element → (ℕ → ℕ) → ℕ → ℕ
-laid_all z j [] v w = w
-laid_all z j (e ∷ es) v w = let x = laid_all z j es v w in cond (eqb e.word j) (put_field (8 * e.lane) (8 * byte_count z) (v e.addr) x) x
-
 -- words from number j on, each from what stands there
 abbrev pub laid_words : Size → ℕ → List Element → (ℕ → ℕ) → State → List Place → List (Cell × Value)
 laid_words z j es v u [] = []

@@ -17,10 +17,11 @@ use Rattle.hm_beat.specs.Touches.{span_bytes}
 use Rattle.hm_kinds.specs.Row.{numbers}
 use Rattle.hm_moves.specs.declared.elements.Element.{Element}
 use Rattle.hm_moves.specs.Moves.{Moves, active_ones, all_bytes_from, bytes_from, as_loaded, fault_after, filled, first_fault, byte_count}
+use Rattle.hm_moves.specs.Coded.{laid_all}
 use Rattle.hm_moves.specs.Moves as moves
 use Rattle.hm_moves.specs.Ways.{each_from}
 use Rattle.hm_moves.specs.Wholes.{fault_of, loaded_elements, read_at, number_bytes, element_bytes}
-use Rattle.hm_moves.proofs.Laying.{filled_got, laid_all}
+use Rattle.hm_moves.proofs.Laying.{filled_got}
 
 -- an element of a word, at an address
 abbrev pub placed : Size → (ℕ → ℕ) → ℕ → Element

@@ -17,7 +17,7 @@ use Rattle.hm_beat.specs.Touches.{looked_places}
 use Rattle.hm_beat.specs.Rows.{active_at, word_place}
 use Rattle.hm_kinds.specs.declared.rows.Written.{Written}
 use Rattle.hm_moves.specs.declared.elements.Element.{Element}
-use Rattle.hm_moves.specs.Moves.{Moves, every_byte, laid, byte_count}
+use Rattle.hm_moves.specs.Moves.{Moves, as_loaded, every_byte, laid_as, byte_count}
 use Rattle.hm_moves.specs.Ways.{Found, way_predicated, way_words}
 
 -- the stop of the first element that has one
@@ -29,10 +29,14 @@ first_stop x store len (e ∷ es) s = option_or (stop_of x Vector store len e.ad
 abbrev pub Fit : Size → List Element → Type 0
 Fit z es = All (λ (e : Element). e.lane + byte_count z ≤ 4) es
 
+-- word j with elements laid into it, each as the number of its address
+abbrev pub laid_all : Size → ℕ → List Element → (ℕ → ℕ) → ℕ → ℕ
+laid_all z j [] v w = w
+laid_all z j (e ∷ es) v w = laid_as z j e (v e.addr) (laid_all z j es v w)
+
 -- word j with the elements that are loaded
 abbrev pub filled_in : Moves → ℕ → List Element → ℕ → Seen → ℕ
-filled_in i j [] old s = old
-filled_in i j (e ∷ es) old s = laid i j e (read (byte_count i.memory) e.addr s) (filled_in i j es old s)
+filled_in i j es old s = laid_all i.register j es (λ a. as_loaded i (read (byte_count i.memory) a s)) old
 
 -- words from number j on, as they are filled
 abbrev pub word_puts : Moves → ℕ → List Element → List Place → (Place → ℕ) → Seen → List Write

@@ -105,9 +105,13 @@ little_endian (suc n) (x ∷ xs) = x + 256 * little_endian n xs
 abbrev pub as_loaded : Moves → ℕ → ℕ
 as_loaded i x = let n = 8 * byte_count i.memory in cond (i.signed && leb (2 ^ (n - 1)) x) ((x + (2 ^ 32 - 2 ^ n)) % 2 ^ 32) x
 
--- an element laid into word j, where it is of that word
+-- an element laid into word j as this number, where it is of that word
+abbrev pub laid_as : Size → ℕ → Element → ℕ → ℕ → ℕ
+laid_as z j e x w = cond (eqb e.word j) (put_field (8 * e.lane) (8 * byte_count z) x w) w
+
+-- an element that was loaded, laid into word j
 abbrev pub laid : Moves → ℕ → Element → ℕ → ℕ → ℕ
-laid i j e x w = cond (eqb e.word j) (put_field (8 * e.lane) (8 * byte_count i.register) (as_loaded i x) w) w
+laid i j e x w = laid_as i.register j e (as_loaded i x) w
 
 -- word j with the elements that are loaded, by their bytes and then the old words of 32 bits; a word that was not read begins as zero
 abbrev pub filled : Moves → ℕ → List Element → List ℕ → ℕ
