@@ -11,7 +11,7 @@ use Rattle.hm_lane.specs.Lanes.{per_word, unlanes}
 use Rattle.hm_lane.specs.Predicate.{allowed, mask_place, remains}
 use Rattle.hm_lane_fns.specs.declared.words.Operand.{Operand}
 use Rattle.hm_lane.specs.declared.lanes.Size.TheVariants.{Byte}
-use Rattle.hm_lane_fns.specs.declared.words.Operand.TheVariants.{Constant, Vector}
+use Rattle.hm_lane_fns.specs.declared.words.Operand.TheVariants.{Vector}
 use Rattle.hm_lane_fns.specs.LaneFns.{lane_of, lane_saturates, saturates}
 use Rattle.hm_lane_fns.specs.Words.{any_both, lane_tests3, lanewise3, nibble, size_of}
 use Rattle.hm_regs.specs.Writes.{write}

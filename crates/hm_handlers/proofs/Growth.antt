@@ -19,14 +19,13 @@ use Rattle.hm_run.specs.Program.{other_here, printed, rows, served, vector_of}
 use Rattle.hm_run.specs.Stops.{at_break, break_of}
 use Rattle.hm_rows.proofs.Context.{context_bytes}
 use Rattle.hm_rows.specs.Context.{with_context}
-use Rattle.hm_rows.specs.Rows.{refuse}
 use Rattle.hm_state.specs.State.{State, Byte, Value, regs_of}
 use Rattle.hm_thumb.specs.Calls.{Asked, Writes, Exits, asked}
 use Rattle.hm_thumb.specs.Does as runner
 use Rattle.hm_whole.specs.Whole.{Went, scalar_in_machine, seen_in, state_with}
 use Rattle.hm_window.specs.declared.rule.Rule.{Rule}
+use Rattle.hm_in_order.proofs.Laws.{begun_in}
 use Rattle.hm_handlers.proofs.Growing.{Grows, Nothing, grows_none, grows_then, thread_scalar}
-use Rattle.hm_handlers.proofs.Hiding.{begins_with}
 use Rattle.hm_handlers.proofs.Written.{thread_beat}
 
 module _ (P : ℕ → Type 0) where
@@ -55,8 +54,7 @@ module _ (listing : Listing) (x : Around) (P : ℕ → Type 0) (beat : (v : Vect
   begun_grows c = begun_by P (c.a == 0) (makes_here (listing c.state.pc) (regs_of c.state)) c.state
 
   begin_grows : (v : Vector) (a : ℕ) (s t : State) → begin machine v a s ≡ Ok t → Grows P s t
-  begin_grows v zero s t e =
-      subst (Grows P s) (sym (begins_with (refuse v (with_context s)) (with_context s) t e)) (context_grows P true s)
+  begin_grows v zero s t e = subst (Grows P s) (begun_in v s t e).1 (context_grows P true s)
   begin_grows v (suc a) s t e = subst (Grows P s) (ok_same e) (grows_none P s)
 
   abbrev landed : Bool → Config State → State → Config State

@@ -1,7 +1,6 @@
 -- What handlers and entries change of the memory is hidden from the thread.
-use Rattle.std.proofs.Common.{◌≡◌, ℕ, zero, suc, ◌-◌, ◌==◌, slice_index, ap, refl, sym, ◌∙◌, subst, Bool, true, false, cond, nat_lt, List, [], Option, Some}
-use Rattle.std.proofs.Common.{None, Result, Ok, Err}
-use Rattle.hm_base.specs.declared.Fault.{Fault}
+use Rattle.std.proofs.Common.{◌≡◌, ℕ, zero, suc, ◌-◌, ◌==◌, slice_index, ap, refl, sym, ◌∙◌, subst, Bool, true, false, cond, nat_lt, List, []}
+use Rattle.std.proofs.Common.{Result, Ok, Err}
 use Rattle.hm_beat.specs.Laws.{WritesTaint}
 use Rattle.hm_beat.specs.Ordered.{nothing, of_four}
 use Rattle.hm_beat.specs.Trees.{action, reach}
@@ -18,14 +17,14 @@ use Rattle.hm_mem.specs.declared.Dev.{Dev}
 use Rattle.hm_order.specs.Beats.{Live}
 use Rattle.hm_order.specs.Machine.{begin}
 use Rattle.hm_order.proofs.Results.{decide, ok_err, ok_same, true_not_false}
-use Rattle.hm_in_order.proofs.Laws.{caused_ok}
+use Rattle.hm_in_order.proofs.Laws.{begun_in, caused_ok}
 use Rattle.hm_in_order.proofs.Ticks.{open_arrived, open_cond}
 use Rattle.hm_in_order.proofs.Vectors.{beat_rest}
 use Rattle.hm_rows.proofs.Context.{context_fresh, fresh}
 use Rattle.hm_rows.proofs.Rows.{row_laws}
 use Rattle.hm_rows.specs.Context.{with_context}
-use Rattle.hm_rows.specs.Rows.{refuse, vector_tree}
-use Rattle.hm_run.specs.Program.{Program, begins, with_cause, rows, unless_refused}
+use Rattle.hm_rows.specs.Rows.{vector_tree}
+use Rattle.hm_run.specs.Program.{Program, begins, rows}
 use Rattle.hm_run.specs.Timed.{counted_with, with_devices}
 use Rattle.hm_sched.specs.Schedule.{Sched}
 use Rattle.hm_state.specs.State.{State, At, Byte, Value, Rest, cells, regs_of}
@@ -104,7 +103,7 @@ abbrev devices_in : Dev → Held → Dev
 devices_in d (InCell v) = d
 devices_in d (Besides r) = r.devices
 
-goes_output : {E : Type 0} (s : State) (q : Result Stepped E) (y : Went) → goes_from s q ≡ Ok y → y.state.rest.output ≡ s.rest.output
+pub goes_output : {E : Type 0} (s : State) (q : Result Stepped E) (y : Went) → goes_from s q ≡ Ok y → y.state.rest.output ≡ s.rest.output
 unfolding state_with
 goes_output s (Ok x) y e = ap (λ (w : Went). w.state.rest.output) (sym (ok_same e))
 goes_output s (Err f) y e = absurd (ok_err (sym e))
@@ -154,11 +153,6 @@ context_hides s = subst (Hides s) (sym (context_fresh s)) (one_of s.rest.fpca)
     one_of true = hides_none s
     one_of false = fresh_hides s
 
-pub begins_with : (o : Option Fault) (s t : State) → with_cause (unless_refused o s) ≡ Ok t → t ≡ s
-begins_with (Some f) s t e = absurd (ok_err (sym e))
-begins_with None s t e = sym (ok_same e)
-
 pub begin_hides : (M : Program) → ((v : Vector) (s : State) → M.start v s ≡ begins v s) → (v : Vector) (a : ℕ) (s t : State) → begin M v a s ≡ Ok t → Hides s t
-begin_hides M starts v zero s t e =
-    subst (Hides s) (sym (begins_with (refuse v (with_context s)) (with_context s) t (sym (starts v s) ∙ e))) (context_hides s)
+begin_hides M starts v zero s t e = subst (Hides s) (begun_in v s t (sym (starts v s) ∙ e)).1 (context_hides s)
 begin_hides M starts v (suc a) s t e = subst (Hides s) (ok_same e) (hides_none s)

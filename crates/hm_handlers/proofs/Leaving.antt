@@ -22,7 +22,7 @@ use Rattle.hm_mem.proofs.Stops.{neither_stops}
 use Rattle.hm_mem.specs.Memory.{Around}
 use Rattle.hm_order.specs.Beats.{then}
 use Rattle.hm_order.specs.Machine.{Config, End, begin, did, done, older, older_of, settle, younger, younger_of}
-use Rattle.hm_order.proofs.Results.{ok_err, ok_same, then_ok}
+use Rattle.hm_order.proofs.Results.{ok_same, then_ok}
 use Rattle.hm_in_order.proofs.Vectors.{beat_rest}
 use Rattle.hm_regs.specs.Stacks.{HandlerOnMain}
 use Rattle.hm_regs.specs.declared.Regs.{Regs}
@@ -33,8 +33,8 @@ use Rattle.hm_run.proofs.Steps.{past}
 use Rattle.hm_run.specs.declared.Cause.{Cause}
 use Rattle.hm_run.specs.declared.Cause.TheVariants as cause
 use Rattle.hm_run.specs.declared.Reason.TheVariants.{Break}
-use Rattle.hm_run.specs.Program.{Program, answered, asks, breakpoint, doing_in_machine, cause_of, caused, core, done_as, with_cause}
-use Rattle.hm_run.specs.Program.{is_ready, most_output, other_here, printed, refusal_rule, rows, served, unless_refused}
+use Rattle.hm_run.specs.Program.{Program, answered, asks, breakpoint, doing_in_machine, cause_of, caused, core, done_as}
+use Rattle.hm_run.specs.Program.{is_ready, most_output, other_here, printed, refusal_rule, rows, served}
 use Rattle.hm_run.specs.Program.{vector_of}
 use Rattle.hm_run.specs.Stops.{at_break, break_of}
 use Rattle.hm_state.specs.State.{State, Rest, at, cells, regs_of}
@@ -45,8 +45,7 @@ use Rattle.hm_thumb.specs.declared.Way.TheVariants as way
 use Rattle.hm_whole.specs.Whole.{Went, goes_from, scalar_in_machine, seen_in, state_with}
 use Rattle.hm_window.specs.declared.rule.Rule.{Rule}
 use Rattle.hm_handlers.proofs.Entering.{byte_in, number_in, spsel_in}
-use Rattle.hm_handlers.proofs.Hiding.{begins_with}
-use Rattle.hm_in_order.proofs.Laws.{caused_ok, no_refusal, none_of}
+use Rattle.hm_in_order.proofs.Laws.{begun_in, caused_ok, no_refusal, none_of}
 use Rattle.hm_handlers.specs.Sound.{FitsInside}
 
 -- AN INSTRUCTION leaves these
@@ -106,10 +105,6 @@ free_it v s h = eqb-true s.rest.it 0
     by_test true y f e = refl
     by_test false y f e = absurd cc
 
-begins_free : (o : Option Fault) (s t : State) → with_cause (unless_refused o s) ≡ Ok t → o ≡ None
-begins_free (Some f) s t e = absurd (ok_err (sym e))
-begins_free None s t e = refl
-
 past_first : (a b : ℕ) → is_between (record { a = suc a; b = b }) ≡ false
 past_first a b = by_first (suc a == 0) refl
   where
@@ -144,10 +139,8 @@ module _ (listing : Listing) (x : Around) where
   row_begins : (v : Vector) (a b : ℕ) (s t : State) → (is_between (record { a = a; b = b }) ≡ false → Ready s.rest) → begin machine v a s ≡ Ok t
       → Same s.rest t.rest × Ready t.rest
   row_begins v zero b s t inside e =
-      let u = with_context s in
-      let there : t ≡ u = begins_with (refuse v u) u t e in
-      let free : refuse v u ≡ None = begins_free (refuse v u) u t e in
-      subst (λ (q : State). Same s.rest q.rest × Ready q.rest) (sym there) (context_same s, (free_it v u free, context_ready s))
+      let begun = begun_in v s t e in
+      subst (λ (q : State). Same s.rest q.rest × Ready q.rest) begun.1 (context_same s, (free_it v (with_context s) begun.0, context_ready s))
   row_begins v (suc a) b s t inside e = subst (λ (q : State). Same s.rest q.rest × Ready q.rest) (ok_same e) (same_none s.rest, inside (past_first a b))
 
   abbrev landed : Bool → Config State → State → Config State

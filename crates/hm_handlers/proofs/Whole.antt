@@ -25,7 +25,7 @@ use Rattle.hm_handlers.specs.Runs.{Run, run, run_out, shown, stacked_of}
 use Rattle.hm_handlers.proofs.Order.{keeps_order}
 
 -- what is counted is the thread's
-counted_n : (c : Config State) (acts : List Interrupted) → (thread_of c acts).n ≡ c.n
+pub counted_n : (c : Config State) (acts : List Interrupted) → (thread_of c acts).n ≡ c.n
 counted_n c [] = refl
 counted_n c (x ∷ []) = refl
 counted_n c (x ∷ y ∷ acts) = counted_n c (y ∷ acts)
@@ -40,7 +40,7 @@ module _ (listing : Listing) (image : List Segment) (s : Sched) where
   machine = thread_program listing s
 
   -- while the run goes on, what holds of the thread
-  going_on : (x : Run) → KeepsOrder listing image s x → GoesOn x.outcome → Holds machine (start image) (thread_of x.machine.config x.machine.acts)
+  pub going_on : (x : Run) → KeepsOrder listing image s x → GoesOn x.outcome → Holds machine (start image) (thread_of x.machine.config x.machine.acts)
   going_on x keeps on = ⊎_elim
       (λ e. subst (λ (q : Option Outcome). AgreesAfter machine (start image) q (thread_at q x.machine.config x.machine.acts)) e keeps.thread)
       (λ e. subst (λ (q : Option Outcome). AgreesAfter machine (start image) q (thread_at q x.machine.config x.machine.acts)) e keeps.thread) on

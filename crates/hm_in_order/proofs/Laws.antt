@@ -77,8 +77,8 @@ agree s t h = record {
   rest = ap (rest_in (open_rest s.rest)) (h.cells Beside refl);
 }
 
-live : (s t : State) → Agree s t → Live view s t
-live s t h = record { cells = cells; sticky = h.sticky }
+pub live_of : (s t : State) → Agree s t → Live view s t
+live_of s t h = record { cells = cells; sticky = h.sticky }
   where
     cells : (w : Watched) → dead w (held s w) ≡ false → held s w ≡ held t w
     cells (In (At p)) d = ap InCell (h.places p)
@@ -179,6 +179,10 @@ pub caused_then : (q : Result State Stop) (f : State → Result State Cause) (g 
 caused_then (Ok t) f g h = h t
 caused_then (Err e) f g h = refl
 
+-- below four, the beat of a number is the one that is given for it
+pub of_four_is : (t : ℕ → Tree) (k : ℕ) → k < 4 → of_four t k ≡ t k
+of_four_is t k low = let test : nat_lt k 4 ≡ true = grind (arith, nat_tests) in ap (λ (b : Bool). cond b (t k) nothing) test
+
 stops_caused : (r : Result State Stop) → StopsBy is_tainted r → StopsBy is_tainted_cause (caused r)
 stops_caused (Ok s) h = h
 stops_caused (Err (stop.Fault f)) h = h
@@ -272,9 +276,6 @@ module _ (x : Around) (thread : x.actor ≡ Thread) where
   }
 
   -- WHAT THE RULES LET THROUGH
-  of_four_is : (t : ℕ → Tree) (k : ℕ) → k < 4 → of_four t k ≡ t k
-  of_four_is t k low = let test : nat_lt k 4 ≡ true = grind (arith, nat_tests) in ap (λ (b : Bool). cond b (t k) nothing) test
-
   apart_lifted : (t u : Tree) (s : State) → Apart (action cells t) (action cells u) s → Apart (lifted (action cells t)) (lifted (action cells u)) s
   apart_lifted t u s h = record { uses = uses; used = used; sets = sets }
     where
@@ -359,7 +360,7 @@ machine_ok : (r : Result State WholeStop) (t : State) → with_cause r ≡ Ok t 
 machine_ok (Ok s) t e = ap Ok (ok_same e)
 machine_ok (Err w) t e = absurd (ok_err (sym e))
 
-begun_in : (v : Vector) (s t : State) → begins v s ≡ Ok t → (refuse v (with_context s) ≡ None) × (with_context s ≡ t)
+pub begun_in : (v : Vector) (s t : State) → begins v s ≡ Ok t → (refuse v (with_context s) ≡ None) × (with_context s ≡ t)
 begun_in v s t e = not_refused (refuse v (with_context s)) (with_context s) t (machine_ok (ready_state v s) t e)
 
 start_ready : (v : Vector) (s t : State) → begins v s ≡ Ok t → is_ready v t ≡ true
@@ -396,7 +397,7 @@ start_live v s t h pc =
     (ap (λ (r : Rest). r.fpca) a.rest)
     (context_pc s ∙ pc ∙ sym (context_pc t)) in
     subst (λ (o : Option Fault). Alike (Live view) (begins v s) (with_cause (unless_refused o (with_context t)))) same
-    (begin_alike (refuse v (with_context s)) (with_context s) (with_context t) (live (with_context s) (with_context t) a))
+    (begin_alike (refuse v (with_context s)) (with_context s) (with_context t) (live_of (with_context s) (with_context t) a))
 
 pub laws : (listing : Listing) (around : Around) → around.actor ≡ Thread → CoreLaws (core listing around)
 laws listing around thread = record {

@@ -11,6 +11,7 @@ use Rattle.hm_order.proofs.Results.{ok_err, ok_same}
 use Rattle.hm_handlers.proofs.Quiet.{alone_is, run_still}
 use Rattle.hm_handlers.specs.Nested.{Ended, Nested, NestedEnd, TickEnd, at_step, letters, with_acts}
 use Rattle.hm_handlers.specs.Runs.{Pointers, Run, after_count, begin as begin_run, closed, ended, enters, may_enter, next, picks, run, stops, tick, tick_of}
+use Rattle.hm_plan_laws.proofs.Open.{rule_none}
 use Rattle.hm_plan_laws.specs.Ends.{IsGreedyAt}
 use Rattle.hm_plan_laws.specs.Greedy.{IsReady}
 use Rattle.hm_plan_laws.specs.Planned.{bare, bare_program, plan_line}
@@ -40,11 +41,6 @@ stops_ended t k younger e es out = cc
 module _ (listing : Listing) where
   abbrev M : Program
   M = bare_program listing
-
-  -- a step of the younger that goes on breaks no rule
-  rule_none : (r : Option Rule) (o : Option Vector) (c d : Config State) → younger_of M r o c ≡ Ok d → r ≡ None
-  rule_none None o c d e = refl
-  rule_none (Some b) o c d e = absurd (ok_err (sym e))
 
   -- with no row behind the older a rule is broken
   no_row : (v : Option Vector) (c : Config State) → M.rule v None c ≡ None → ⊥
@@ -139,8 +135,8 @@ module _ (listing : Listing) where
         b = at.1;
         third = g.0;
         goes = g.1;
-        no_rule = rule_none (M.rule (M.code (M.rows.view.pc g.0.state)) (M.code (M.rows.view.pc g.0.state + 4)) g.0) (M.code (M.rows.view.pc g.0.state + 4)) g.0
-            f g.2;
+        no_rule = rule_none M (M.rule (M.code (M.rows.view.pc g.0.state)) (M.code (M.rows.view.pc g.0.state + 4)) g.0)
+            (M.code (M.rows.view.pc g.0.state + 4)) g.0 f g.2;
         first = f;
         follows = g.2;
       }

@@ -1,9 +1,8 @@
 -- Readiness in so many words, and runs to which more ticks may be added.
-use Rattle.std.proofs.Common.{◌≡◌, ◌↔◌, ℕ, ◌+◌, ◌==◌, ◌&&◌, arith, true, List, ◌∷◌, ◌++◌, drop, take, length, Option, Some, None, Ok, Err}
-use Rattle.std.proofs.Common.{refl, sym, ◌∙◌, ap}
+use Rattle.std.proofs.Common.{◌≡◌, ◌↔◌, ◌+◌, ◌==◌, ◌&&◌, true, List, ◌∷◌, ◌++◌, drop, take, length, Option, Some, None, Ok, Err}
+use Rattle.std.proofs.Common.{refl, sym, ◌∙◌, ap, eqb-true}
 use Rattle.std.proofs.Math.Seq.{drop-append_seam, take-append_seam}
 use Rattle.std.proofs.lemmas.Bool.{and_parts}
-use Rattle.std.proofs.lemmas.Bool.Decides.{nat_tests}
 use Rattle.hm_base.specs.Image.{Segment}
 use Rattle.hm_codes.specs.Listing.{Listing}
 use Rattle.hm_isa.specs.declared.Vector.{Vector}
@@ -20,12 +19,9 @@ use Rattle.hm_state.specs.State.{State}
 use Rattle.hm_window.specs.declared.rule.Rule.{Rule}
 
 -- READINESS
-nat_is : (a b : ℕ) → (a == b) ≡ true → a ≡ b
-nat_is a b e = grind (arith, nat_tests)
-
 module _ (M : Program) where
   -- a step of the younger that goes on breaks no rule
-  rule_none : (r : Option Rule) (o : Option Vector) (c d : Config State) → younger_of M r o c ≡ Ok d → r ≡ None
+  pub rule_none : (r : Option Rule) (o : Option Vector) (c d : Config State) → younger_of M r o c ≡ Ok d → r ≡ None
   rule_none None o c d e = refl
   rule_none (Some b) o c d e = absurd (ok_err (sym e))
 
@@ -49,7 +45,7 @@ module _ (M : Program) where
   told c e =
       let first = and_parts (c.a == 2) ((c.b == 0) && goes_on (then (older M c) (younger M))) e in
       let second = and_parts (c.b == 0) (goes_on (then (older M c) (younger M))) first.1 in
-      first_of_two c (older M c) (nat_is c.a 2 first.0) (nat_is c.b 0 second.0) refl second.1
+      first_of_two c (older M c) (eqb-true c.a 2 first.0) (eqb-true c.b 0 second.0) refl second.1
 
   tells : (c : Config State) → IsReady M c → is_ready M c ≡ true
   tells c h = λ j. (h.a j == 2) && ((h.b j == 0) && goes_on ((then_ok_at (older M c) (younger M) h.third h.goes ∙ h.follows) j))

@@ -5,7 +5,6 @@ use Rattle.std.proofs.Common.{None, refl, slice_index}
 use Rattle.std.specs.Str.{IsAscii}
 use Rattle.hex.specs.Hex.{encode_lower}
 use Rattle.hm_base.specs.declared.FaultKind.{FaultKind}
-use Rattle.hm_base.specs.declared.FaultKind.TheVariants as kind
 use Rattle.hm_base.specs.declared.Place.{Place}
 use Rattle.hm_base.specs.declared.Place.TheVariants as place
 use Rattle.hm_regs.specs.Stacks.{main_of, process_of}

@@ -5,7 +5,7 @@ mod laws;
 mod outcome_text;
 mod registers_text;
 
-ghost use Rattle.std.specs.Prelude.{◌≡◌, ◌+◌, length, codes, IfOk};
+ghost use Rattle.std.specs.Prelude.{◌≡◌, IfOk};
 ghost use Rattle.hm_run.specs.Report.{mode_line, output_lines, report_of};
 
 use hm_base::OutOfMemory;

@@ -1,6 +1,6 @@
 //! The lines of the registers.
 
-ghost use Rattle.std.specs.Prelude.{◌≡◌, ◌++◌, ◌+◌, ◌*◌, ◌<◌, ◌≤◌, length, codes, IfOk};
+ghost use Rattle.std.specs.Prelude.{◌≡◌, ◌+◌, ◌*◌, ◌<◌, ◌≤◌, length, IfOk};
 ghost use Rattle.hm_run.specs.Report.{low_lines, word_line, pointer_lines, position_line, flags_line, bit_line, system_line, state_lines, special_lines};
 ghost use Rattle.hm_run.specs.Report.{vector_words, vector_line, vector_lines, register_lines};
 
