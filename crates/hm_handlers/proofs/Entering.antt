@@ -67,7 +67,7 @@ module _ (r : Regs) (w : Window) (e : ℕ) (count : length r.qw ≡ 32) (can : C
   }
 
 -- WHAT IS NOT REFUSED has room
-room_of : (bounds : Bounds) (r : Regs) (m : Seen) (e : ℕ) → entry_refusal bounds r m e ≡ None → has_room bounds r ≡ true
+pub room_of : (bounds : Bounds) (r : Regs) (m : Seen) (e : ℕ) → entry_refusal bounds r m e ≡ None → has_room bounds r ≡ true
 room_of bounds r m e h = by_room (has_room bounds r) _ _ h
   where
     by_room : (b : Bool) (why : EnterErr) (rest : Option EnterErr) → cond (not b) (Some why) rest ≡ None → b ≡ true

@@ -1,6 +1,7 @@
 -- Which bytes an instruction that is no vector row taints.
 use Rattle.std.proofs.Common.{◌≡◌, ◌⊎◌, ℕ, zero, suc, ◌+◌, ◌-◌, ◌<◌, ◌≤◌, Bool, true, false, cond, not, ◌&&◌, ◌||◌, List, [], ◌∷◌, length, Option, Some, None}
 use Rattle.std.proofs.Common.{Result, Ok, Err, inl, inr, ⊎_elim, refl, sym, ◌∙◌, ap, subst, arith, add-zero}
+use Rattle.std.proofs.lemmas.Bool.{and_parts}
 use Rattle.std.proofs.lemmas.Bool.Decides.{nat_tests}
 use Rattle.hm_base.specs.declared.Stop.{Stop}
 use Rattle.hm_isa.specs.declared.Instr.{Instr}
@@ -59,14 +60,6 @@ or_second : (x y : Bool) → (x || y) ≡ false → y ≡ false
 or_second true y h = absurd cc
 or_second false y h = h
 
-and_first : (x y : Bool) → (x && y) ≡ true → x ≡ true
-and_first true y h = refl
-and_first false y h = absurd cc
-
-and_second : (x y : Bool) → (x && y) ≡ true → y ≡ true
-and_second true y h = h
-and_second false y h = absurd cc
-
 module _ (p : ℕ → Bool) (a : ℕ) where
   at_once : p a ≡ false → p (a + 0) ≡ false
   at_once h = subst (λ (n : ℕ). p n ≡ false) (sym (add-zero a)) h
@@ -116,13 +109,13 @@ module _ (frame : ℕ) (bounds : Bounds) where
   store_grows how len a v s is free b tainted =
       decide (lies_in_sram len a && covers a len b)
       (λ there.
-      let covered : covers a len b ≡ true = and_second (lies_in_sram len a) (covers a len b) there in
+      let covered : covers a len b ≡ true = (and_parts (lies_in_sram len a) (covers a len b) there).1 in
       let low : a ≤ b = grind (arith, nat_tests) in
       let high : b < a + len = grind (arith, nat_tests) in
       let k : b - a < len = omega arith in
       let at : a + (b - a) ≡ b = omega arith in
       inr (subst (Allowed frame bounds) at
-      (all_allowed len a is (and_first (lies_in_sram len a) (covers a len b) there)
+      (all_allowed len a is (and_parts (lies_in_sram len a) (covers a len b) there).0
       (kept_none (fault_kind false how true len a) (is_denied bounds frame len a) a free) (b - a) k)))
       (λ other. inl (sym (ap (λ (q : Bool). cond q true (s.taint b)) other) ∙ tainted))
 

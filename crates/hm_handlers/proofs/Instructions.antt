@@ -1,7 +1,7 @@
 -- Every instruction leaves the exception number, the stack of a handler, and the IT byte, but where it opens a block.
-use Rattle.std.proofs.Common.{◌≡◌, ◌≢◌, ℕ, ◌+◌, ◌-◌, ◌*◌, ◌%◌, ◌<◌, Bool, true, false, refl, arith}
-use Rattle.std.specs.Prelude.{IsTrue, ◌&&◌, nat_eq, nat_lt, slice_index}
-use Rattle.std.proofs.lemmas.Bool.{ltb-true}
+use Rattle.std.proofs.Common.{◌≢◌, ℕ, ◌+◌, ◌-◌, ◌*◌, ◌%◌, ◌<◌, refl, arith}
+use Rattle.std.specs.Prelude.{IsTrue, nat_eq, nat_lt, slice_index}
+use Rattle.std.proofs.lemmas.Bool.{and_parts, ltb-true}
 use Rattle.hm_isa.specs.Rules.{keeps_it}
 use Rattle.hm_isa.specs.declared.Branch.{Branch}
 use Rattle.hm_isa.specs.declared.Branch.TheVariants as branch
@@ -23,13 +23,9 @@ use Rattle.hm_handlers.proofs.Choices.{either}
 use Rattle.hm_handlers.proofs.Jumps.{branch-keep, jump-keep, s25-keep, t16-keep, t23-keep}
 use Rattle.hm_handlers.proofs.Registers.{Same, byte-same, context-same, data-same, lane-same, logic-same, product-same, system-same, t18-same}
 
-left : (a b : Bool) → (a && b) ≡ true → a ≡ true
-left true b h = refl
-left false b h = h
-
 -- the mask of a block is not 0, and stands in the lowest four bits of its byte
 opens : (c mask : ℕ) → c < 15 → mask < 16 → IsTrue (keeps_it c mask) → (c * 16 + mask < 256) × ((c * 16 + mask) % 16 ≢ 0)
-opens c mask low fits h = let some : 0 < mask = ltb-true 0 mask (left (nat_lt 0 mask) _ h) in (omega arith, omega arith)
+opens c mask low fits h = let some : 0 < mask = ltb-true 0 mask (and_parts (nat_lt 0 mask) _ h).0 in (omega arith, omega arith)
 
 module _ (r : Regs) where
   any-keep : (d x : ℕ) (q : Regs) → Same r q → EndsKeep r (put_any d x q)

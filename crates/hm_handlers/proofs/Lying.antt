@@ -1,8 +1,8 @@
 -- After each tick every tainted byte lies where an entry or a handler may write.
 use Rattle.hm_run.specs.Timed.{bounds_of, counted_with, with_devices}
-use Rattle.hm_mem.specs.Memory.{Bounds}
-use Rattle.std.proofs.Common.{◌≡◌, ◌⊎◌, ℕ, zero, suc, ◌==◌, ◌+◌, ◌-◌, ◌*◌, ◌/◌, ◌%◌, ◌^◌, ◌<◌, ◌≤◌, ap, refl, sym, ◌∙◌, Bool, true, false, cond, not, ◌&&◌}
-use Rattle.std.proofs.Common.{◌||◌, nat_le, nat_lt, List, [], ◌∷◌, drop, Option, Some, None, Result, Ok, Err, inl, inr, ⊎_elim, arith}
+use Rattle.std.proofs.Common.{◌≡◌, ◌⊎◌, ℕ, zero, suc, ◌==◌, ◌+◌, ◌-◌, ◌*◌, ◌/◌, ◌%◌, ◌^◌, ◌<◌, ◌≤◌, ap, refl, sym, ◌∙◌, Bool, true, false, cond, ◌&&◌}
+use Rattle.std.proofs.Common.{nat_le, nat_lt, List, [], ◌∷◌, drop, Option, Some, None, Result, Ok, Err, inl, inr, ⊎_elim, arith}
+use Rattle.std.proofs.lemmas.Bool.{or_cases}
 use Rattle.std.proofs.lemmas.Bool.Decides.{nat_tests}
 use Rattle.hm_base.specs.Image.{Segment}
 use Rattle.hm_base.specs.declared.Fault.{Fault}
@@ -12,6 +12,7 @@ use Rattle.hm_exc.specs.Entry.{entry_refusal, in_frame, main_after}
 use Rattle.hm_exc.specs.Frame.{floor_for, frame_base, frame_size, has_room}
 use Rattle.hm_exc.specs.Return.{return_rule}
 use Rattle.hm_exc.specs.declared.types.Activation.{Activation}
+use Rattle.hm_exc.proofs.Stacked.{size_most}
 use Rattle.hm_exc.specs.declared.types.Broken.{Broken}
 use Rattle.hm_exc.specs.declared.types.EnterErr.{EnterErr}
 use Rattle.hm_isa.specs.declared.Flow.{Flow}
@@ -27,7 +28,6 @@ use Rattle.hm_regs.specs.declared.Regs.{Regs}
 use Rattle.hm_run.specs.declared.Cause.{Cause}
 use Rattle.hm_run.specs.declared.Outcome.{Outcome}
 use Rattle.hm_run.specs.Program.{steps_left, vector_of}
-use Rattle.hm_run.specs.Timed as timed
 use Rattle.hm_sched.specs.Schedule.{TickLine, Sched, older_letter, younger_letter, ticks_of}
 use Rattle.hm_state.specs.Start.{start_under}
 use Rattle.hm_state.specs.State.{State, Byte, regs_of}
@@ -42,11 +42,9 @@ use Rattle.hm_handlers.specs.Runs.{stopped_under, stops, tick_of}
 use Rattle.hm_handlers.specs.Taint.{BelowMain, MayBeTainted, TaintLies}
 use Rattle.hm_handlers.proofs.Growing.{Allowed, Grows, Nothing, handler_scalar}
 use Rattle.hm_handlers.proofs.Growth.{StepGrows, begun_grows, fault_grows, thread_older, thread_younger, vector_grows, younger_grows}
+use Rattle.hm_handlers.proofs.Order.{out_ends}
+use Rattle.hm_handlers.proofs.Entering.{room_of}
 use Rattle.hm_handlers.proofs.Written.{handler_beat}
-
-either_of : (x y : Bool) → (x || y) ≡ true → (x ≡ true) ⊎ (y ≡ true)
-either_of true y h = inl refl
-either_of false y h = inr h
 
 -- THE FRAME of an entry ends below the stack pointer
 frame_fits : (sp size base q : ℕ) → q ≡ (sp + 2 ^ 32 - size) % 2 ^ 32 → base ≡ q - q / 4 % 2 * 4 → size ≤ 104 → base + size ≤ 0x20040000 → base + size ≤ sp
@@ -63,9 +61,6 @@ framed : (process : Bool) (other base size sp floor process_floor a : ℕ) (P Q 
     → ((floor ≤ a) × ((a < cond process other sp) ⊎ P)) ⊎ ((process_floor ≤ a) × (((process ≡ true) × (a < cond process sp other)) ⊎ Q))
 framed true other base size sp floor process_floor a P Q fits low start end = inr (omega arith, inl (refl, omega arith))
 framed false other base size sp floor process_floor a P Q fits low start end = inl (omega arith, inl (omega arith))
-
-small_frame : (long : Bool) → frame_size long ≤ 104
-small_frame long = grind arith
 
 module _ (listing : Listing) (s : Sched) where
   -- what may be tainted stays so with more entries
@@ -95,7 +90,7 @@ module _ (listing : Listing) (s : Sched) where
   allowed_lies frame sps a below h = ⊎_elim
       (λ (e : (nat_le s.lo a && nat_lt a s.hi) ≡ true). inl (grind (arith, nat_tests), grind (arith, nat_tests)))
       (λ (e : (nat_le s.floor a && nat_lt a frame) ≡ true). let l : a < frame = grind (arith, nat_tests) in inr (inl (grind (arith, nat_tests), below a l)))
-      (either_of (nat_le s.lo a && nat_lt a s.hi) (nat_le s.floor a && nat_lt a frame) h)
+      (or_cases (nat_le s.lo a && nat_lt a s.hi) (nat_le s.floor a && nat_lt a frame) h)
 
   handler_grown : (x : Interrupted) (acts : List Interrupted) (sps : List Pointers) (t u : State) → Grows (Allowed (main_after x.stacked) (bounds_of s)) t u
       → Lies sps t (x ∷ acts) → TaintLies s sps u
@@ -240,13 +235,6 @@ module _ (listing : Listing) (s : Sched) where
   stops_lie t k younger (Offends what c acts) sps h = ended_lies _ _ t sps h
 
   -- AN ENTRY
-  room_of : (bounds : Bounds) (r : Regs) (m : _) (e : ℕ) → entry_refusal bounds r m e ≡ None → has_room bounds r ≡ true
-  room_of bounds r m e h = by_room (has_room bounds r) _ _ h
-    where
-      by_room : (b : Bool) (why : EnterErr) (rest : Option EnterErr) → cond (not b) (Some why) rest ≡ None → b ≡ true
-      by_room true why rest h = refl
-      by_room false why rest h = absurd cc
-
   module _ (e : ℕ) (x : Nested) (sps : List Pointers) (free : entry_refusal (bounds_of s) (regs_of x.config.state) (seen_in x.config.state) e ≡ None)
       (old : Lies sps x.config.state x.acts) where
     abbrev r : Regs
@@ -261,7 +249,7 @@ module _ (listing : Listing) (s : Sched) where
     fits : frame_base r + frame_size r.fpca ≤ r.sp
     fits =
         let there = room in
-        let small = small_frame r.fpca in
+        let small = size_most r.fpca in
         let high : frame_base r + frame_size r.fpca ≤ 0x20040000 = grind (arith, nat_tests) in
         frame_fits r.sp (frame_size r.fpca) (frame_base r) ((r.sp + 2 ^ 32 - frame_size r.fpca) % 2 ^ 32) refl refl small high
 
@@ -319,11 +307,7 @@ module _ (listing : Listing) (s : Sched) where
       (letters_lie x.entries line.letters 0 x.machine (record { taint = h.taint; frames = h.frames e }))
 
   closed_lies : (left : List TickLine) (x : Run) → RunLies x → RunLies (closed left x)
-  closed_lies [] x h = record { taint = h.taint; frames = λ none. absurd (or_out_ends x.outcome none) }
-    where
-      or_out_ends : (o : Option Outcome) → timed.or_out o ≡ None → ⊥
-      or_out_ends (Some o) e = cc
-      or_out_ends None e = cc
+  closed_lies [] x h = record { taint = h.taint; frames = λ none. absurd (out_ends x.outcome none) }
   closed_lies (line ∷ left) x h = h
 
   next_lies : (left : List TickLine) (x : Run) → RunLies x → RunLies (next listing s left x)

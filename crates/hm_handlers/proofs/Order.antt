@@ -334,6 +334,11 @@ module _ (listing : Listing) (s : Sched) (first : State) where
   pub first_keeps : (left : List TickLine) (x : Run) → KeepsRun x → KeepsRun (closed left x)
   first_keeps left x h = closed_keeps left x h
 
+-- once no tick is left a run has an outcome
+pub out_ends : (o : Option Outcome) → timed.or_out o ≡ None → ⊥
+out_ends (Some o) e = cc
+out_ends None e = cc
+
 pub keeps_order : (listing : Listing) (image : List Segment) (s : Sched) (t : ℕ) → KeepsOrder listing image s (run listing image s t)
 keeps_order listing image s zero =
     first_keeps listing s (start image) (ticks_of s.lines) (begin image s) (record { thread = begun listing image s; halts = tt })

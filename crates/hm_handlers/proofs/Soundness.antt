@@ -28,7 +28,6 @@ use Rattle.hm_regs.specs.declared.Regs.{Regs}
 use Rattle.hm_run.specs.declared.Cause.{Cause}
 use Rattle.hm_run.specs.declared.Outcome.{Outcome}
 use Rattle.hm_run.specs.Program.{steps_left, vector_of}
-use Rattle.hm_run.specs.Timed as timed
 use Rattle.hm_run.specs.Timed.{counted_with, with_devices, bounds_of}
 use Rattle.hm_sched.specs.Schedule.{TickLine, Sched, older_letter, younger_letter, ticks_of}
 use Rattle.hm_state.specs.Start.{start_under}
@@ -47,6 +46,7 @@ use Rattle.hm_handlers.proofs.Entering.{stacked_by}
 use Rattle.hm_handlers.proofs.Hiding.{Hides, counted_hides, entry_hides, scalar_hides}
 use Rattle.hm_handlers.proofs.Leaving.{Leaves, RowLeaves, StepLeaves, fault_leaves, older_leaves, same_leaves, scalar_leaves, vector_leaves, younger_leaves}
 use Rattle.hm_handlers.proofs.Leaving.{younger_steps}
+use Rattle.hm_handlers.proofs.Order.{out_ends}
 use Rattle.hm_handlers.proofs.Nesting.{levels_same, most_active, picked_number, picked_urgent, room_for, urgent_over, urgent_same}
 
 -- a position between two instructions
@@ -311,10 +311,6 @@ module _ (s : Sched) where
     tick_sound : (line : TickLine) (x : Run) (o : Option Outcome) → x.outcome ≡ o → RunSound x → RunSound (tick_of listing s line x o)
     tick_sound line x (Some o) e h = h
     tick_sound line x None e h = tick_ends line x (letters listing s 0 line.letters x.machine) (letters_sound listing 0 line.letters x.machine (h e))
-
-    out_ends : (o : Option Outcome) → timed.or_out o ≡ None → ⊥
-    out_ends (Some o) e = cc
-    out_ends None e = cc
 
     closed_sound : (left : List TickLine) (x : Run) → RunSound x → RunSound (closed left x)
     closed_sound [] x h = λ none. absurd (out_ends x.outcome none)

@@ -1,5 +1,5 @@
 -- A tick of a beat of the older and one of the younger goes on only where two may overlap.
-use Rattle.std.proofs.Common.{◌≡◌, ◌⊎◌, ℕ, zero, suc, ◌+◌, ◌==◌, ◌||◌, ◌<◌, arith, Bool, true, false, cond, not, nat_lt, List, [], ◌∷◌, drop, is_some}
+use Rattle.std.proofs.Common.{◌≡◌, ◌⊎◌, ℕ, zero, suc, ◌+◌, ◌==◌, ◌<◌, arith, Bool, true, false, cond, List, [], ◌∷◌, drop}
 use Rattle.std.proofs.Common.{Option, Some, None, Result, Ok, Err, inl, inr, refl, sym, ◌∙◌, ap, subst}
 use Rattle.std.proofs.lemmas.Bool.Decides.{nat_tests}
 use Rattle.hm_base.specs.Image.{Segment}
@@ -8,16 +8,17 @@ use Rattle.hm_isa.specs.declared.Vector.{Vector}
 use Rattle.hm_order.specs.Beats.{then}
 use Rattle.hm_order.specs.Machine.{Config, begin, Stopped, did, done, older, older_of, settle, younger, younger_of}
 use Rattle.hm_order.proofs.Results.{ok_err, ok_same}
+use Rattle.hm_handlers.proofs.Order.{out_ends}
 use Rattle.hm_handlers.proofs.Quiet.{alone_is, run_still}
 use Rattle.hm_handlers.specs.Nested.{Ended, Nested, NestedEnd, TickEnd, at_step, letters, with_acts}
 use Rattle.hm_handlers.specs.Runs.{Pointers, Run, after_count, begin as begin_run, closed, ended, enters, may_enter, next, picks, run, stops, tick, tick_of}
+use Rattle.hm_plan_laws.proofs.Loops.{runs_on}
 use Rattle.hm_plan_laws.proofs.Open.{rule_none}
 use Rattle.hm_plan_laws.specs.Ends.{IsGreedyAt}
 use Rattle.hm_plan_laws.specs.Greedy.{IsReady}
 use Rattle.hm_plan_laws.specs.Planned.{bare, bare_program, plan_line}
 use Rattle.hm_plan_laws.specs.declared.Greedy.TheVariants as greedy
 use Rattle.hm_run.specs.Program.{Program, Stepped}
-use Rattle.hm_run.specs.Timed.{or_out}
 use Rattle.hm_run.specs.declared.Cause.{Cause}
 use Rattle.hm_run.specs.declared.Outcome.{Outcome}
 use Rattle.hm_sched.specs.Schedule.{Sched, TickLine, ticks_of, younger_letter}
@@ -146,10 +147,6 @@ module _ (listing : Listing) where
 abbrev Stands : Run → Type 0
 Stands x = x.outcome ≡ None → may_end x.machine.config.a x.machine.config.b ≡ true
 
-or_none : (o : Option Outcome) → or_out o ≡ None → ⊥
-or_none None e = cc
-or_none (Some o) e = cc
-
 module _ (listing : Listing) (s : Sched) (none : s.entries ≡ false) where
   end_stands : (line : TickLine) (y : Run) (o : Outcome) (b : Bool) → may_end y.machine.config.a y.machine.config.b ≡ b
       → Stands (cond b (may_enter s (after_count line y)) (record y { outcome = Some o }))
@@ -168,7 +165,7 @@ module _ (listing : Listing) (s : Sched) (none : s.entries ≡ false) where
   tick_stands line x None e = ended_stands line x (letters listing s 0 line.letters x.machine)
 
   closed_stands : (left : List TickLine) (x : Run) → Stands x → Stands (closed left x)
-  closed_stands [] x h = λ out. absurd (or_none x.outcome out)
+  closed_stands [] x h = λ out. absurd (out_ends x.outcome out)
   closed_stands (line ∷ left) x h = h
 
   next_stands : (left : List TickLine) (x : Run) → Stands x → Stands (next listing s left x)
@@ -179,14 +176,10 @@ module _ (listing : Listing) (s : Sched) (none : s.entries ≡ false) where
   run_stands image zero = closed_stands (ticks_of s.lines) (begin_run image s) (λ out. refl)
   run_stands image (suc t) = next_stands (drop t (ticks_of s.lines)) (run listing image s t) (run_stands image t)
 
-not_over : (o : Option Outcome) (b : Bool) → (is_some o || b) ≡ false → o ≡ None
-not_over None b e = refl
-not_over (Some o) b e = absurd cc
-
 -- before a tick of a plan, where the tick of both would go on, two may overlap
 pub overlaps : (listing : Listing) (image : List Segment) (n t : ℕ) (s : Sched) (line : TickLine) → s.entries ≡ false → IsGreedyAt listing image n s t line
     → (tick listing (bare []) both (run listing image s t)).outcome ≡ None → IsReady (bare_program listing) (run listing image s t).machine.config
 overlaps listing image n t s line none greedy out =
     let x = run listing image s t in
-    let on = not_over x.outcome (not (nat_lt x.machine.config.n n)) greedy.goes in
+    let on = runs_on n x greedy.goes in
     goes_ready listing x on (run_still listing image s t none).0 (run_stands listing s none image t on) out
