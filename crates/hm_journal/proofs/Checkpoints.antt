@@ -1,31 +1,20 @@
 -- The checkpoints of a run's journal.
-use Rattle.std.proofs.Common.{◌≡◌, ℕ, zero, suc, ◌+◌, ◌*◌, ◌/◌, ◌<◌, ◌≤◌, arith, ap, refl, inr, subst, sym, ◌∙◌, List, [], ◌∷◌, ◌++◌, length, slice_get, Some}
+use Rattle.std.proofs.Common.{◌≡◌, ℕ, zero, suc, ◌+◌, ◌*◌, ◌/◌, ◌<◌, ◌≤◌, arith, ap, refl, inr, subst, sym, ◌∙◌, List, [], length, slice_get, Some, add-one}
+use Rattle.std.proofs.lemmas.List.{length_push}
 use Rattle.std.proofs.Math.Nat.{div-lt_iff_lt-mul, div-mul-le_self, lt-div-mul-add, mul-le-mul}
 use Rattle.hm_base.specs.Image.{Segment}
 use Rattle.hm_codes.specs.Listing.{Listing}
 use Rattle.hm_handlers.specs.Runs.{run_out}
+use Rattle.hm_machine.proofs.Reels.{one_more_tick, pushed}
 use Rattle.hm_sched.specs.Schedule.{Sched, most_ticks, ticks_of}
-use Rattle.hm_journal.proofs.Pairs.{one_more_tick}
 use Rattle.hm_journal.proofs.RunTicks.{few_ticks}
 use Rattle.hm_journal.specs.Journals.{IsJournal, ReportAt, most_checkpoints}
 use Rattle.hm_journal.specs.Runs.{AreOfRun, first_checkpoints, journal_of, report_at}
 
--- what holds of each holds of each with one more at the end
-pushed : {A : Type 0} (P : ℕ → A → Type 0) (xs : List A) (x : A) → ((k : ℕ) (y : A) → slice_get xs k ≡ Some y → P k y) → P (length xs) x
-    → (k : ℕ) (y : A) → slice_get (xs ++ x ∷ []) k ≡ Some y → P k y
-pushed P [] x all last zero y e = let same : x ≡ y = cc in subst (P 0) same last
-pushed P [] x all last (suc k) y e = absurd cc
-pushed P (z ∷ xs) x all last zero y e = all zero y e
-pushed P (z ∷ xs) x all last (suc k) y e = pushed (λ n. P (suc n)) xs x (λ n. all (suc n)) last k y e
-
-long_pushed : {A : Type 0} (xs : List A) (x : A) → length (xs ++ x ∷ []) ≡ suc (length xs)
-long_pushed [] x = refl
-long_pushed (y ∷ xs) x = ap suc (long_pushed xs x)
-
 module _ (report : ℕ → List ℕ) (every : ℕ) where
   pub long : (n : ℕ) → length (first_checkpoints report every n) ≡ n
   long zero = refl
-  long (suc n) = long_pushed (first_checkpoints report every n) _ ∙ ap suc (long n)
+  long (suc n) = length_push (first_checkpoints report every n) _ ∙ add-one (length (first_checkpoints report every n)) ∙ ap suc (long n)
 
   -- checkpoint k lies at tick k * every, and has its report
   pub record Lies (n k : ℕ) (x : ReportAt) : Type 0 where

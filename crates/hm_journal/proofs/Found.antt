@@ -1,11 +1,11 @@
 -- What a journal's JSON has under its keys.
 use Rattle.std.proofs.Common.{◌≡◌, ℕ, ◌*◌, ◌≤◌, arith, ap, refl, subst, sym, ◌∙◌, codes, List, map, Some, option_and_then}
 use Rattle.std.proofs.Math.Nat.{mul-le-mul}
+use Rattle.std.proofs.lemmas.Option.{slice_get_within}
 use Rattle.std.specs.Str.{IsUtf8}
 use Rattle.serde_json.specs.Find.{as_array, get}
 use Rattle.serde_json.specs.Read.{read}
 use Rattle.serde_json.specs.View.{items_of}
-use Rattle.hm_journal.proofs.Pairs.{below_here}
 use Rattle.hm_journal.specs.Journals.{AreSmall, IsJournal, IsJournalFile, Journaled, journal_data, checkpoint_data, number_at}
 
 pub every_in : (j : Journaled) → number_at (codes "every") (journal_data j) ≡ Some j.every
@@ -20,7 +20,7 @@ ticks_fit j sound k x at =
     let is = sound.ticks k x at in
     let few = sound.few in
     let most = sound.most in
-    let h = below_here j.checkpoints k x at in
+    let h = slice_get_within j.checkpoints k x at in
     let below : k ≤ 63 = omega (arith, h, few) in
     let low : k * j.every ≤ 63 * 16777216 = mul-le-mul below most in
     omega (arith, is, low)

@@ -6,6 +6,7 @@ use Rattle.std.proofs.lemmas.Bool.{cases_lt}
 use Rattle.std.proofs.Math.Nat.{div-eq_of_lt-le}
 use Rattle.std.proofs.Math.Seq.{take-length}
 use Rattle.std.proofs.lemmas.List.{append-nil, length-append, take-append-le}
+use Rattle.std.proofs.lemmas.Option.{slice_get-get_or}
 use Rattle.hm_base.specs.Image.{Segment, flash_byte}
 use Rattle.hm_codes.proofs.Exists.{exists}
 use Rattle.hm_handlers.specs.Runs.{Run}
@@ -20,14 +21,9 @@ use Rattle.hm_position.specs.Next.{Begins}
 use Rattle.hm_sched.specs.Schedule.{Sched, ticks_of}
 use Rattle.hm_state.specs.State.{state_of}
 
-there : {A : Type 0} (xs : List A) (k : ℕ) (d : A) → k < length xs → slice_get xs k ≡ Some (get_or xs k d)
-there [] k d h = absurd (omega arith)
-there (x ∷ xs) zero d h = refl
-there (x ∷ xs) (suc k) d h = there xs k d (omega arith)
-
 -- the element that an index gives
 pub found : {A : Type 0} (xs : List A) (k : ℕ) (x : A) → k < length xs → x ≡ get_or xs k x → slice_get xs k ≡ Some x
-found xs k x h is = there xs k x h ∙ ap Some (sym is)
+found xs k x h is = slice_get-get_or xs k x h ∙ ap Some (sym is)
 
 -- what holds of each holds of each with one more at the end
 pub pushed : {A : Type 0} (P : ℕ → A → Type 0) (xs : List A) (x : A) → ((k : ℕ) (y : A) → slice_get xs k ≡ Some y → P k y) → P (length xs) x
@@ -43,14 +39,6 @@ pub mapped : {A B : Type 0} (f : A → B) (P : ℕ → B → Type 0) (xs : List 
 mapped f P [] all k y e = absurd cc
 mapped f P (x ∷ xs) all zero y e = let same : f x ≡ y = cc in subst (P 0) same (all zero x refl)
 mapped f P (x ∷ xs) all (suc k) y e = mapped f (λ n. P (suc n)) xs (λ n. all (suc n)) k y e
-
-pub long_mapped : {A B : Type 0} (f : A → B) (xs : List A) → length (map f xs) ≡ length xs
-long_mapped f [] = refl
-long_mapped f (x ∷ xs) = ap suc (long_mapped f xs)
-
-pub long_pushed : {A : Type 0} (xs : List A) (x : A) → length (xs ++ x ∷ []) ≡ length xs + 1
-long_pushed [] x = refl
-long_pushed (y ∷ xs) x = let e = long_pushed xs x in omega (arith, e)
 
 pub only_one : {A : Type 0} (old new : List A) (x : A) → old ≡ [] → new ≡ old ++ x ∷ [] → new ≡ x ∷ []
 only_one old new x none is = is ∙ ap (λ (xs : List _). xs ++ x ∷ []) none
@@ -117,11 +105,11 @@ lie_first a b f o apart cs e h = subst (λ (st : Shown). AreApart st f o apart c
 pub shows_first : (a b : Shown) (t : ℕ) (m : Shown) → a ≡ b → ShowsTick b t m → ShowsTick a t m
 shows_first a b t m e h = subst (λ (st : Shown). ShowsTick st t m) (sym e) h
 
+pub one_more_tick : (k e : ℕ) → k * e + e ≡ (k + 1) * e
+one_more_tick k e = grind arith
+
 pub more_apart : (reached apart k : ℕ) → reached + apart ≡ k * apart → (reached + apart) + apart ≡ (k + 1) * apart
-more_apart reached apart k e = ap (λ (n : ℕ). n + apart) e ∙ again k apart
-  where
-    again : (k e : ℕ) → k * e + e ≡ (k + 1) * e
-    again k e = grind arith
+more_apart reached apart k e = ap (λ (n : ℕ). n + apart) e ∙ one_more_tick k apart
 
 -- so many checkpoints lie at or before a tick
 pub count_is : (count apart last : ℕ) → 0 < count → (count - 1) * apart ≤ last → last < count * apart → count ≡ last / apart + 1

@@ -63,8 +63,9 @@ shows_on image s t old new h none flash schedule left now counted = record {
       omega (arith, more, before);
 }
 
-shows_ended : (image : List Segment) (s : Sched) (t : ℕ) (m : Shown) (o : Outcome) → Shows image s t m → m.outcome ≡ Some o → Shows image s (suc t) m
-shows_ended image s t m o h e = record {
+-- a machine that has ended after one more tick, and at the end of the run
+pub shows_still : (image : List Segment) (s : Sched) (t : ℕ) (m : Shown) (o : Outcome) → Shows image s t m → m.outcome ≡ Some o → Shows image s (suc t) m
+shows_still image s t m o h e = record {
   bytes = h.bytes;
   plan = h.plan;
   left = λ n. absurd cc;
@@ -79,11 +80,7 @@ shows_ended image s t m o h e = record {
 
 shows_later : (image : List Segment) (s : Sched) (t k : ℕ) (m : Shown) (o : Outcome) → m.outcome ≡ Some o → Shows image s t m → Shows image s (t + k) m
 shows_later image s t zero m o e h = rw add-zero h
-shows_later image s t (suc k) m o e h = rw add-suc (shows_ended image s (t + k) m o (shows_later image s t k m o e h) e)
-
--- a machine that has ended after one more tick, and at the end of the run
-pub shows_still : (image : List Segment) (s : Sched) (t : ℕ) (m : Shown) (o : Outcome) → Shows image s t m → m.outcome ≡ Some o → Shows image s (suc t) m
-shows_still = shows_ended
+shows_later image s t (suc k) m o e h = rw add-suc (shows_still image s (t + k) m o (shows_later image s t k m o e h) e)
 
 pub shows_end : (image : List Segment) (s : Sched) (t u : ℕ) (m : Shown) (o : Outcome) → m.outcome ≡ Some o → t ≤ u → Shows image s t m → Shows image s u m
 shows_end image s t u m o e le h =

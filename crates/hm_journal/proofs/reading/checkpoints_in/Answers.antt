@@ -1,6 +1,7 @@
 use Rattle.std.proofs.Common.{◌≡◌, ◌++◌, [], ◌∷◌, None, Some, ap, sym, ◌∙◌, map, option_map}
+use Rattle.std.proofs.lemmas.List.{map_push}
 use Rattle.serde_json.specs.View.{view}
-use Rattle.hm_journal.proofs.Pairs.{beside, map-push, take_more}
+use Rattle.hm_journal.proofs.Pairs.{beside, take_more}
 use Rattle.hm_journal.specs.Journals.{checkpoint_data}
 use Rattle.hm_journal.specs.Views.{checkpoint_of}
 use Rattle.hm_journal.proofs.reading.checkpoints_in.Goals as goal
@@ -19,5 +20,5 @@ loop-value-preserved c xs fits e =
     let some : Some (checkpoint_of c.in-Some.x) ≡ Some b.0 = sym (ap (option_map checkpoint_of) c.in-Some.is) ∙ did in
     let same : checkpoint_of c.in-Some.x ≡ b.0 = cc in
     let before = c.loop-value.invariant xs fits e in
-    ap (map checkpoint_of) c.in_ok-push-in-Some.ensures.items ∙ map-push checkpoint_of c.loop-value.checkpoints.items c.in-Some.x
+    ap (map checkpoint_of) c.in_ok-push-in-Some.ensures.items ∙ map_push checkpoint_of c.loop-value.checkpoints.items c.in-Some.x
     ∙ (λ j. before j ++ same j ∷ []) ∙ sym (take_more xs c.loop-value.value-index b.0 b.1)

@@ -1,8 +1,9 @@
 use Rattle.std.proofs.Common.{◌≡◌, ℕ, ◌+◌, ◌*◌, ap, arith, refl, sym, ◌∙◌, map, slice_get, Some, length}
 use borrow.Author.Count.{below_more}
-use Rattle.hm_journal.proofs.Pairs.{below_some, item_at, one_more_tick}
+use Rattle.hm_journal.proofs.Pairs.{below_some, item_at}
 use Rattle.hm_journal.specs.Journals.{ReportAt}
 use Rattle.hm_journal.specs.Views.{checkpoint_of}
+use Rattle.hm_machine.proofs.Reels.{one_more_tick}
 use Rattle.hm_journal.proofs.reading.has_ticks.Goals as goal
 
 pub returns-then-x-tick : goal.returns-then-x-tick

@@ -1,6 +1,7 @@
 use Rattle.std.proofs.Common.{◌≡◌, ℕ, ◌+◌, ◌-◌, ◌*◌, ◌<◌, ◌≤◌, [], ◌∷◌, List, ap, arith, inr, length, refl, sym, ◌∙◌, subst, take}
+use Rattle.std.proofs.lemmas.List.{length_push}
 use Rattle.hm_machine.proofs.Counts.{ended_before, shows_more}
-use Rattle.hm_machine.proofs.Reels.{first_pushed, first_still, kept_still, lie_still, long_pushed, more_apart, new_kept, new_machine, one_less, only_one}
+use Rattle.hm_machine.proofs.Reels.{first_pushed, first_still, kept_still, lie_still, more_apart, new_kept, new_machine, one_less, only_one}
 use Rattle.hm_machine.proofs.Reels.{pushed, shows_output}
 use Rattle.hm_machine.specs.Checkpoints.{IsKept}
 use Rattle.hm_machine.specs.Shown.{Shows, fixed_of}
@@ -53,7 +54,7 @@ loop-k-preserved c =
     let old = before.shows image s c.requires.start.2 in
     let more : Begins m.output n.output = shows_output image s c.loop-k.reached c.args.apart m n old (c.pass.ensures.shows image s c.loop-k.reached old) in
     record {
-      many = ap length items ∙ long_pushed cs x ∙ ap (λ (k : ℕ). k + 1) many;
+      many = ap length items ∙ length_push cs x ∙ ap (λ (k : ℕ). k + 1) many;
       first = ap (λ (l : List Checkpoint). first_of l n.output n) items ∙ first_pushed cs x n.output n some
           ∙ first_still (fixed_of m) (fixed_of n) m.output n.output same more cs m n refl refl some before.kept ∙ before.first;
       kept = subst (AreKept (fixed_of n) n.output) (sym items)

@@ -1,7 +1,8 @@
 use Rattle.std.proofs.Common.{◌≡◌, ⊎_elim, ℕ, ◌+◌, ◌*◌, ◌/◌, ◌<◌, ◌≤◌, List, ap, arith, length, refl, sym, ◌∙◌, subst}
+use Rattle.std.proofs.lemmas.List.{length-map}
 use Rattle.hm_handlers.specs.Runs.{Run}
 use Rattle.hm_machine.proofs.Counts.{ticks_most}
-use Rattle.hm_machine.proofs.Reels.{at_end, count_is, first_still, kept_still, lie_first, lie_still, long_mapped, mapped, shows_first}
+use Rattle.hm_machine.proofs.Reels.{at_end, count_is, first_still, kept_still, lie_first, lie_still, mapped, shows_first}
 use Rattle.hm_machine.specs.Shown.{Shown, Shows, fixed_of}
 use Rattle.hm_machine.specs.Tapes.{AreApart, AreKept, first_of, machine_at}
 use Rattle.hm_machine.specs.declared.checkpoint.Checkpoint.{Checkpoint}
@@ -86,7 +87,7 @@ returns-clause-reached c =
     let last = c.ticks-last.ensures.value in
     let apart = returns-clause-apart c in
     let most = ticks_most c.args.image.now c.args.s (length (ticks_of c.args.s.lines)) (end c) (ends c) in
-    long_mapped (machine_at (fixed_of (end c)) c.in_ok-output.output.items) (checkpoints c)
+    length-map (checkpoints c) (machine_at (fixed_of (end c)) c.in_ok-output.output.items)
     ∙ count_is (length (checkpoints c)) (c.scheduled.result / 64 + 1) c.ticks-last.result some (omega (arith, low, more, last)) (⊎_elim
     (λ full. subst (λ (n : ℕ). c.ticks-last.result < n * (c.scheduled.result / 64 + 1)) (sym full) (omega (arith, most, last, apart)))
     (λ over.
@@ -96,5 +97,5 @@ returns-clause-reached c =
 
 pub returns-clause-few : goal.returns-clause-few
 returns-clause-few c =
-    let size = long_mapped (machine_at (fixed_of (end c)) c.in_ok-output.output.items) (checkpoints c) in
+    let size = length-map (checkpoints c) (machine_at (fixed_of (end c)) c.in_ok-output.output.items) in
     ⊎_elim (λ full. omega (arith, size, full)) (λ over. let few = over.0 in omega (arith, size, few)) c.in_ok-kept.ensures.all
