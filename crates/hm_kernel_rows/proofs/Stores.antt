@@ -30,7 +30,8 @@ use Rattle.hm_kernel_rows.proofs.Merging.{length_lanes, tails}
 use Rattle.hm_kernel_rows.proofs.Moves.{inside_of, moved_row, stands_at}
 use Rattle.hm_kernel_lang.proofs.Replacing.{replaced_same}
 use Rattle.hm_order.proofs.Results.{decide}
-use Rattle.hm_kernel_rows.proofs.Vectors.{pc_kept, rest_kept}
+use Rattle.hm_kinds.proofs.Row.{pc-put_all}
+use Rattle.hm_moves.proofs.Stored.{rest-put_all}
 
 -- ONE NUMBER: its first byte and the rest
 test_first : (c b top : ℕ) → c ≡ b → c < top → (nat_le (c + 1) b && nat_lt b top ≡ false) × (nat_le c b && nat_lt b top ≡ true)
@@ -207,9 +208,9 @@ module _ (t : ElementType) (v : View) (s : State) (h : Shows t v s) (q : ℕ) (r
 
   stored_shows : Shows t (record v { byte = replaced t v.scratch (min v.left (lanes t)) (v.lane q) v.byte }) after
   stored_shows =
-      let rest : after.rest ≡ s.rest = rest_kept ws s in
+      let rest : after.rest ≡ s.rest = rest-put_all ws s in
       record {
-        pc = pc_kept ws s ∙ h.pc;
+        pc = pc-put_all ws s ∙ h.pc;
         offset = place_kept (R 4) ∙ h.offset;
         scratch = place_kept (R 5) ∙ h.scratch;
         length = place_kept (R 6) ∙ h.length;
