@@ -7,7 +7,6 @@ use Rattle.std.specs.FinMap.{get}
 use Rattle.hm_base.specs.Image.{Segment, flash_byte}
 use Rattle.hm_base.specs.declared.errors.ImageErr.{ImageErr}
 use Rattle.hm_codes.specs.Listing.{Listing, IsListing}
-use Rattle.hm_codes.proofs.Unique.{fetched_one}
 use Rattle.hm_elf.specs.ReadImage.{image_in}
 use Rattle.hm_ihex.specs.Files.{hex_in}
 use Rattle.hm_ihex.proofs.HexFiles.{hex_only}
@@ -35,15 +34,12 @@ use Rattle.hm_sched.specs.declared.errors.SchedErr.{SchedErr}
 use Rattle.hm_sched.proofs.FileLaws.{file_again}
 use Rattle.hm_commands.specs.Headline.{IsGiven, IsReported, RunsToHeadline, IsShownInOrder, RunsInOrder, has_halted}
 use Rattle.hm_commands.specs.Run.{is_fault, is_halted, short_report, schedule_in}
+use Rattle.hm_soak_laws.proofs.Line.{one_listing}
 use Rattle.hm_words.specs.Words.{Form, Source, ticks, file, run, seq, form_of, reads_of}
 use Rattle.hm_words.proofs.Forms.{form_of-run, form_of-seq}
 use Rattle.hm_commands.proofs.Ending.{Does-begins, untouched_wanted}
 use Rattle.hm_commands.proofs.Listed.{some_listings}
 use Rattle.hm_commands.proofs.Runs.{reset_refusal-odd}
-
--- a flash has one listing
-pub listing_one : (flash : ℕ → ℕ) (x y : Listing) → IsListing flash x → IsListing flash y → x ≡ y
-listing_one flash x y h k = λ i. λ a. fetched_one flash a (x a) (y a) (h.at a) (k.at a) i
 
 -- a file that holds an image is read as it
 image_of_again : (bytes : List ℕ) (image : List Segment) → IsImageOf bytes image → image_of bytes ≡ Ok image
@@ -126,12 +122,12 @@ reported_by listing F P memory image s new status is h = record {
   printed = h.printed;
   files = h.files;
   headline = λ other are.
-      let same = listing_one (flash_byte image) listing other is are in
+      let same = one_listing (flash_byte image) listing other is are in
       headline_every other image s _ _ (ap (λ l. report_text (shown_out l image s)) same) (ap (λ l. memory_text (shown_out l image s)) same);
   riders = λ other are. riders_every other image s;
   taint = λ other are. taint_lies other image s (length (ticks_of s.lines));
   ends = λ other are.
-      let same = listing_one (flash_byte image) listing other is are in
+      let same = one_listing (flash_byte image) listing other is are in
       h.ends ∙ ap (λ l. if is_halted (shown_out l image s).outcome then Done else Ended) same;
 }
 
@@ -193,12 +189,12 @@ shown_by : (listing : Listing) (F : FileMap) (P : List ℕ) (image : List Segmen
     → Left (effect_for (told (shown_out listing image (plain n)))) F P new status → IsShownInOrder F P image n new status
 shown_by listing F P image n new status is h = record {
   printed = λ other are.
-      let same = listing_one (flash_byte image) listing other is are in
+      let same = one_listing (flash_byte image) listing other is are in
       h.printed ∙ ap (λ l. Some (P ++ short_report (shown_out l image (plain n)))) same
       ∙ ap (λ (text : List ℕ). Some (P ++ text)) (plainly_shown other image n);
   files = h.files;
   ends = λ other are.
-      let same = listing_one (flash_byte image) listing other is are in
+      let same = one_listing (flash_byte image) listing other is are in
       h.ends ∙ ap (λ l. if is_halted (shown_out l image (plain n)).outcome then Done else Ended) same
       ∙ ap (λ (halted : Bool). if halted then Done else Ended) (plainly_halted other image n);
 }

@@ -13,12 +13,12 @@ use Rattle.hm_ihex_laws.proofs.HexRuns.{hex_colon, joined_listing, joined_reset,
 use Rattle.hm_run.specs.Timed.{Timed}
 use Rattle.hm_sched.specs.Schedule.{Sched}
 use Rattle.hm_sched.specs.declared.errors.SchedErr.{SchedErr}
+use Rattle.hm_soak_laws.proofs.Line.{one_listing}
 use Rattle.hm_commands.specs.Commands.{AreListings, reported, run_outcome, unless_refused}
 use Rattle.hm_commands.specs.Images.{begins_as_hex, image_of}
 use Rattle.hm_commands.specs.Run.{reset_refusal}
 use Rattle.hm_commands.specs.declared.work.Refusal.{Refusal}
 use Rattle.hm_commands.specs.declared.work.Refusal.TheVariants.{Reset}
-use Rattle.hm_commands.proofs.Headlines.{listing_one}
 
 hex_is_read : (image : List Segment) → IsImage image → AreBytes image → image_of (hex_file image) ≡ Ok (joined image)
 hex_is_read image is all =
@@ -28,7 +28,7 @@ hex_is_read image is all =
 shown_alike : (listings : List Segment → Listing) (image : List Segment) (s : Sched) → AreListings listings → IsImage image
     → shown_out (listings (joined image)) (joined image) s ≡ shown_out (listings image) image s
 shown_alike listings image s are is =
-    let one = listing_one (flash_byte (joined image)) (listings (joined image)) (listings image) (are.at (joined image))
+    let one = one_listing (flash_byte (joined image)) (listings (joined image)) (listings image) (are.at (joined image))
     (joined_listing image (listings image) is (are.at image)) in
     ap (λ (l : Listing). shown_out l (joined image) s) one ∙ joined_shown (listings image) image s is
 

@@ -1,11 +1,11 @@
 -- The values of a text's arrays have their places, and overlap nothing.
-use Rattle.std.proofs.Common.{◌≡◌, ℕ, suc, ◌+◌, ◌*◌, ◌<◌, ◌≤◌, ◌⊎◌, inl, inr, Bool, true, false, length, nat_eq, nat_lt, List, [], ◌∷◌, refl, subst, arith}
+use Rattle.std.proofs.Common.{◌≡◌, ℕ, suc, ◌+◌, ◌*◌, ◌<◌, ◌≤◌, ◌⊎◌, inl, inr, Bool, true, false, length, nat_eq, List, [], ◌∷◌, refl, subst, arith}
 use Rattle.std.specs.Prelude.{All, AllPairs, if◌then◌else◌, slice_index, slice_index_or}
 use Rattle.std.proofs.lemmas.Bool.Decides.{nat_tests}
-use Rattle.std.proofs.lemmas.List.Elements.{All-cons, All-head, All-nil, All-tail}
+use Rattle.std.proofs.lemmas.List.Elements.{All-head, All-nil, All-tail}
 use Rattle.hm_base.specs.Image as image
 use Rattle.hm_base.specs.Image.{Before, InFlash, IsApart, IsImage, Segment, flash_size, flat, segment, with_segment}
-use Rattle.hm_base.proofs.Images.{IsImage-with_segment}
+use Rattle.hm_base.proofs.Images.{All-with_segment, IsImage-with_segment}
 use Rattle.hm_kernel_lang.specs.declared.text.Array.{Array}
 use Rattle.hm_kernel_lang.specs.declared.text.ElementType.{ElementType}
 use Rattle.hm_kernel_lang.specs.Language.{bytes}
@@ -45,21 +45,12 @@ two_apart t n x y h k (inr above) = let e = long t y in let w = within t n y k i
 flash_apart : (t : ElementType) (n : ℕ) (x : Array) (s : Segment) → IsArray t n x → InFlash s → Before (array_segment t x) s ⊎ Before s (array_segment t x)
 flash_apart t n x s h f = let low = h.placed.low in inr (omega arith)
 
--- what holds of a segment and of others holds of all together
-pub all_with : (P : Segment → Type 0) (s : Segment) (ss : List Segment) → P s → All P ss → All P (with_segment s ss)
-all_with P s [] p h = All-cons P s [] p h
-all_with P s (t ∷ ts) p h = go (nat_lt s.addr t.addr) (all_with P s ts p (All-tail P t ts h))
-  where
-    go : (b : Bool) → All P (with_segment s ts) → All P (if b then s ∷ t ∷ ts else t ∷ with_segment s ts)
-    go true i = All-cons P s (t ∷ ts) p h
-    go false i = All-cons P t (with_segment s ts) (All-head P t ts h) i
-
 all_array : (P : Segment → Type 0) (t : ElementType) (x : Array) (ss : List Segment) → P (array_segment t x) → All P ss → All P (with_array t x ss)
 all_array P t x ss p h = go (nat_eq (length x.values.items) 0)
   where
     go : (b : Bool) → All P (if b then ss else with_segment (array_segment t x) ss)
     go true = h
-    go false = all_with P (array_segment t x) ss p h
+    go false = All-with_segment P (array_segment t x) ss p h
 
 all_arrays : (P : Segment → Type 0) (t : ElementType) (xs : List Array) (ss : List Segment) → All (λ x. P (array_segment t x)) xs → All P ss
     → All P (with_arrays t xs ss)

@@ -46,7 +46,8 @@ module _ (number : ℕ) (listing : Listing) (image : List Segment) where
         record { same = same_test s t; means = same_decides s t; is = refl },
       )
 
-one_listing : (flash : ℕ → ℕ) (a b : Listing) → IsListing flash a → IsListing flash b → a ≡ b
+-- a flash has one listing
+pub one_listing : (flash : ℕ → ℕ) (a b : Listing) → IsListing flash a → IsListing flash b → a ≡ b
 one_listing flash a b h k = λ j x. fetched_one flash x (a x) (b x) (h.at x) (k.at x) j
 
 -- the text that the line is, of any image and listing that are the soak's
