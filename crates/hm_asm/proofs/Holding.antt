@@ -3,7 +3,7 @@ use Rattle.std.proofs.Common.{◌≡◌, ◌⊎◌, ℕ, ◌+◌, ◌-◌, ◌<�
 use Rattle.std.proofs.Common.{inr, arith}
 use Rattle.std.specs.Prelude.{◌&&◌}
 use Rattle.std.specs.List.{AllByRecursion}
-use Rattle.std.proofs.lemmas.Bool.{cases_Bool, eqb-true, eqb-false}
+use Rattle.std.proofs.lemmas.Bool.{cases_Bool, cases_lt, eqb-true, eqb-false}
 use Rattle.std.proofs.lemmas.Bool.Decides.{nat_tests}
 use Rattle.std.proofs.lemmas.List.{get_or_append_left, get_or-append_right, length-append}
 use Rattle.std.proofs.lemmas.List.Elements.{All-nil, All-cons, All-head, All-tail, All-weaker}
@@ -23,21 +23,18 @@ below a n x h = grind (arith, nat_tests)
 above : (a n x : ℕ) → a + n ≤ x → (leb a x && ltb x (a + n)) ≡ false
 above a n x h = grind (arith, nat_tests)
 
-order : (x a : ℕ) → (x < a) ⊎ (a ≤ x)
-order x a = grind arith
-
 -- bytes, and those that follow them
 both_given : (a c x r : ℕ) (bs cs : List ℕ) → a + length bs ≡ c
     → cond (leb a x && ltb x (a + length (bs ++ cs))) (get_or (bs ++ cs) (x - a) 0) r
     ≡ cond (leb a x && ltb x (a + length bs)) (get_or bs (x - a) 0) (cond (leb c x && ltb x (c + length cs)) (get_or cs (x - c) 0) r)
 both_given a c x r bs cs e =
     let lengths = length-append bs cs in
-    elim (order x a) [
+    elim (cases_lt x a) [
       | inl l ↦ rw (below a (length (bs ++ cs)) x l, below a (length bs) x l, below c (length cs) x (omega (arith, l, e))) refl
-      | inr h ↦ elim (order x c) [
+      | inr h ↦ elim (cases_lt x c) [
         | inl l ↦ rw (within a (length (bs ++ cs)) x h (omega (arith, l, e, lengths)), within a (length bs) x h (omega (arith, l, e)))
             (get_or_append_left bs cs 0 (x - a) (omega (arith, l, h, e)))
-        | inr g ↦ elim (order x (c + length cs)) [
+        | inr g ↦ elim (cases_lt x (c + length cs)) [
           | inl l ↦ rw (
             within a (length (bs ++ cs)) x h (omega (arith, l, e, lengths)),
             above a (length bs) x (omega (arith, g, e)),

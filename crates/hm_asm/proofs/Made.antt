@@ -5,15 +5,13 @@ use Rattle.std.proofs.lemmas.List.{append-nil, length-append, length-replicate}
 use Rattle.std.proofs.lemmas.List.Elements.{All-append, All-cons, All-nil, All-weaker}
 use Rattle.hm_base.specs.Image.{Before, IsImage, IsPlaced, Segment, segment, with_segment}
 use Rattle.hm_base.proofs.Images.{IsImage-with_segment, with_segment-behind}
+use Rattle.hm_text.proofs.Once.{some_or_none}
 use Rattle.hm_source.specs.Places.{HasRoom}
 use Rattle.hm_source.proofs.Rooms.{room_after_some}
 use Rattle.hm_asm.specs.Making.{IsMade}
 use Rattle.hm_asm.specs.Segments.{with_piece}
 
 -- ROOM for bytes in two parts
-some_or_none : (n : ℕ) → (n ≡ 0) ⊎ (0 < n)
-some_or_none n = grind arith
-
 room_more : (a n m : ℕ) → HasRoom a n → HasRoom (a + n) m → HasRoom a (n + m)
 room_more a n m h k = elim (some_or_none n) [
   | inl e ↦

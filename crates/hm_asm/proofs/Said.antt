@@ -7,16 +7,13 @@ use Rattle.hm_source.specs.Directives.{Directed, org, align, space, values, aske
 use Rattle.hm_source.specs.Statements.{Said, nothing, instruction, directive, Says}
 use Rattle.hm_source.proofs.Asks.{no_list, one_size}
 use Rattle.hm_source.proofs.Fronts.{one_tokens}
-use Rattle.hm_source.proofs.One.{one_list}
+use Rattle.hm_source.proofs.One.{one_list, tail_is}
 use Rattle.hm_text.specs.Texts.{HasWidth}
 use Rattle.hm_text.proofs.Once.{one_width}
 
 -- DIRECTIVES
 name_same : (v w : List ℕ) (ts us : List Tok) → word v ∷ ts ≡ word w ∷ us → v ≡ w
 name_same v w ts us e = cc
-
-rest_same : (t u : Tok) (ts us : List Tok) → t ∷ ts ≡ u ∷ us → ts ≡ us
-rest_same t u ts us e = cc
 
 -- the second letter of a name tells these apart
 differ : (v w : List ℕ) (ts us : List Tok) (a b : ℕ) → get_or v 1 0 ≡ a → get_or w 1 0 ≡ b → ltb a b || ltb b a ≡ true → word v ∷ ts ≡ word w ∷ us → ⊥
@@ -39,7 +36,7 @@ one_asked (values s d ds) (org b) t = absurd ((no_list s).0 (name_same (list_nam
 one_asked (values s d ds) (align m) t = absurd ((no_list s).1 (name_same (list_name s) (codes ".align") (list_tokens d ds) (number m ∷ []) t))
 one_asked (values s d ds) (space m) t = absurd ((no_list s).2 (name_same (list_name s) (codes ".space") (list_tokens d ds) (number m ∷ []) t))
 one_asked (values s d ds) (values r e es) t =
-    let list = one_list d e ds es (rest_same (word (list_name s)) (word (list_name r)) (list_tokens d ds) (list_tokens e es) t) in
+    let list = one_list d e ds es (tail_is (word (list_name s)) (word (list_name r)) (list_tokens d ds) (list_tokens e es) t) in
     same (one_size s r (name_same (list_name s) (list_name r) (list_tokens d ds) (list_tokens e es) t)) list.0 list.1
   where
     same : s ≡ r → d ≡ e → ds ≡ es → values s d ds ≡ values r e es

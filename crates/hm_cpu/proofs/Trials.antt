@@ -1,9 +1,10 @@
 -- What is tried of a machine, and undone.
 use Rattle.std.specs.Prelude.{eqb}
 use Rattle.std.specs.Result.{is_ok}
-use Rattle.std.proofs.Common.{◌≡◌, ℕ, zero, suc, ◌+◌, ◌-◌, ◌<◌, ◌≤◌, ◌%◌, ◌^◌, ◌==◌, ◌&&◌, ◌||◌, arith, ap, refl, sym, ◌∙◌, subst, Bool, true, false, List, []}
+use Rattle.std.proofs.Common.{◌≡◌, ℕ, zero, suc, ◌+◌, ◌-◌, ◌<◌, ◌≤◌, ◌%◌, ◌^◌, ◌==◌, ◌&&◌, ◌||◌, arith, ap, refl, sym, ◌∙◌, subst, Bool, false, List, []}
 use Rattle.std.proofs.Common.{◌∷◌, ◌++◌, drop, take, slice_index_or, length, Option, Some, None, Result, Ok, Err}
 use Rattle.std.proofs.lemmas.List.{append-nil, take_rest}
+use Rattle.std.proofs.lemmas.Bool.{or_from, or_parts}
 use Rattle.hm_base.specs.declared.Span.{Span}
 use Rattle.hm_base.specs.declared.Stop.{Stop}
 use Rattle.hm_beat.proofs.Lists.{kept_law}
@@ -34,21 +35,13 @@ use Rattle.hm_window.specs.declared.rule.Rule.{Rule}
 use Rattle.hm_window.specs.declared.rule.Rule.TheVariants as rule
 
 -- ADDRESSES
-neither : (p q : Bool) → (p || q) ≡ false → (p ≡ false) × (q ≡ false)
-neither true q e = absurd cc
-neither false q e = (refl, e)
-
-none_of : (p q : Bool) → p ≡ false → q ≡ false → (p || q) ≡ false
-none_of true q e f = absurd cc
-none_of false q e f = f
-
 -- an address before others, or among them
 behind : (others rest : List ℕ) (x a : ℕ) → (eqb x a || has_byte (others ++ rest) a) ≡ false → has_byte (others ++ (x ∷ rest)) a ≡ false
 behind [] rest x a e = e
 behind (o ∷ os) rest x a e =
-    let one = neither (eqb x a) (eqb o a || has_byte (os ++ rest) a) e in
-    let two = neither (eqb o a) (has_byte (os ++ rest) a) one.1 in
-    none_of (eqb o a) (has_byte (os ++ (x ∷ rest)) a) two.0 (behind os rest x a (none_of (eqb x a) (has_byte (os ++ rest) a) one.0 two.1))
+    let one = or_parts (eqb x a) (eqb o a || has_byte (os ++ rest) a) e in
+    let two = or_parts (eqb o a) (has_byte (os ++ rest) a) one.1 in
+    or_from (eqb o a) (has_byte (os ++ (x ∷ rest)) a) two.0 (behind os rest x a (or_from (eqb x a) (has_byte (os ++ rest) a) one.0 two.1))
 
 -- the bytes of a span behind its first k
 wraps : (a k j : ℕ) → ((a + k) % 2 ^ 32 + j) % 2 ^ 32 ≡ (a + (k + j)) % 2 ^ 32

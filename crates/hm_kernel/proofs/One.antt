@@ -2,6 +2,7 @@
 use Rattle.std.proofs.Common.{◌≡◌, ℕ, zero, suc, ◌+◌, ◌*◌, ◌<◌, Bool, true, false, cond, List, [], ◌∷◌, ◌++◌, length, map, refl, sym, ap, ◌∙◌, arith}
 use Rattle.std.specs.Prelude.{All, decimal}
 use Rattle.std.proofs.lemmas.List.Elements.{All-head, All-tail}
+use Rattle.std.proofs.lemmas.Bool.{false_from_ne_true}
 use Rattle.hm_kernel_lang.specs.declared.text.Array.{Array}
 use Rattle.hm_kernel_lang.specs.declared.text.ElementType.{ElementType}
 use Rattle.hm_kernel_lang.specs.declared.text.Expr.{Expr}
@@ -47,13 +48,9 @@ all_names t n before [] h i l = absurd (omega arith)
 all_names t n before (a ∷ arrays) h zero l = h.0.name
 all_names t n before (a ∷ arrays) h (suc i) l = all_names t n (before ++ array_written a ∷ []) arrays h.1 i (omega arith)
 
-not_true : (b : Bool) → (b ≡ true → ⊥) → b ≡ false
-not_true true h = absurd (h refl)
-not_true false h = refl
-
 module _ (t : ElementType) (arrays : List Array) (named : AllNames arrays) where
   pub is_number : (k : ℕ) → IsOver t (length arrays) (Number k) → is_name (decimal k) ≡ false
-  is_number k h = not_true (is_name (decimal k)) (numeral_not_name (decimal k) (numeral_again k (number_fits t k h)))
+  is_number k h = false_from_ne_true (is_name (decimal k)) (numeral_not_name (decimal k) (numeral_again k (number_fits t k h)))
 
   names_are : (e : Expr) → IsOver t (length arrays) e → names e ≡ tree_names (expr_written arrays e)
   names_are (Name i) h = sym (ap (λ (b : Bool). cond b 1 0) (named i h))

@@ -2,7 +2,7 @@
 use Rattle.std.proofs.Common.{◌≡◌, ◌∙◌, ℕ, ◌+◌, ◌*◌, ◌/◌, ◌%◌, ◌<◌, ◌^◌, Bool, true, false, cond, nat_eq, nat_lt, not, List, [], ◌∷◌, ◌++◌, Option, Some, None}
 use Rattle.std.proofs.Common.{ap, append_assoc, arith, codes, decimal, drop, get_or, map, refl, sym, take}
 use Rattle.std.specs.Str.Parse.{digits_value}
-use Rattle.std.proofs.lemmas.Bool.{and_parts}
+use Rattle.std.proofs.lemmas.Bool.{and_parts, not-true}
 use Rattle.std.proofs.lemmas.Bool.Decides.{nat_tests}
 use Rattle.std.proofs.lemmas.Fmt.{decimal_is_IsNumeral}
 use Rattle.hm_base.specs.declared.FaultKind.{FaultKind}
@@ -171,15 +171,11 @@ apart c = cond (nat_eq c 45) 32 c
 byte_again : (c : ℕ) → nat_eq c 45 ≡ false → apart (joined c) ≡ c
 byte_again c none = grind (arith, nat_tests)
 
-not_so : (b : Bool) → not b ≡ true → b ≡ false
-not_so true h = sym h
-not_so false h = refl
-
 words_again : (text : List ℕ) → are_words text ≡ true → map apart (map joined text) ≡ text
 words_again [] h = refl
 words_again (c ∷ cs) h =
     let parts = and_parts (is_worded c) (are_words cs) h in
-    let other : nat_eq c 45 ≡ false = not_so (nat_eq c 45) (and_parts (nat_lt c 128) (not (nat_eq c 45)) parts.0).1 in
+    let other : nat_eq c 45 ≡ false = not-true (nat_eq c 45) (and_parts (nat_lt c 128) (not (nat_eq c 45)) parts.0).1 in
     λ j. byte_again c other j ∷ words_again cs parts.1 j
 
 name_again : (k : Kind) → HasNumbers k → kind_in (map apart (kind_name k)) ≡ k

@@ -3,8 +3,9 @@ use Rattle.std.proofs.Common.{◌≡◌, ℕ, List, [], ◌∷◌, ◌++◌, Opt
 use Rattle.std.specs.Prelude.{IfNone}
 use Rattle.hm_text_base.proofs.Steps.{some_is}
 use Rattle.hm_tokens.specs.Lines.{AreTokensOf}
-use Rattle.hm_tokens.specs.Tokens.{Tok, word, mark, skip, token_at, comma, plus_mark}
+use Rattle.hm_tokens.specs.Tokens.{Tok, skip, token_at, comma, plus_mark}
 use Rattle.hm_line.specs.Fronts.{AreFront}
+use Rattle.hm_text.proofs.Decided.{mark_is}
 use Rattle.hm_source.specs.Shown.{EndsHere}
 
 -- a token and a rest
@@ -17,12 +18,6 @@ nothing = None
 no_token : (x : Next) → token_at [] ≡ Some x → ⊥
 unfolding token_at
 no_token x e = let f : nothing ≡ Some x = e in absurd cc
-
-pub mark_is : (a b : ℕ) → mark a ≡ mark b → a ≡ b
-mark_is a b e = cc
-
-pub word_is : (v w : List ℕ) → word v ≡ word w → v ≡ w
-word_is v w e = cc
 
 -- one token is read there, with one rest
 pub same_next : (text : List ℕ) (t u : Tok) (r s : List ℕ) → token_at (skip text) ≡ Some (t, r) → token_at (skip text) ≡ Some (u, s) → (t ≡ u) × (r ≡ s)

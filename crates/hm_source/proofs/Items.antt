@@ -4,7 +4,8 @@ use Rattle.hm_tokens.specs.Tokens.{word, number, mark, skip, token_at, minus_mar
 use Rattle.hm_source.specs.Directives.{Datum, literal, named, beyond, datum_tokens}
 use Rattle.hm_line.specs.Fronts.{AreFront}
 use Rattle.hm_source.specs.Shown.{EndsHere}
-use Rattle.hm_source.proofs.Fronts.{front_one, mark_is, same_front, same_next, word_is}
+use Rattle.hm_text.proofs.Decided.{mark_is, word_is}
+use Rattle.hm_source.proofs.Fronts.{front_one, same_front, same_next}
 
 -- ---- that a number begins
 

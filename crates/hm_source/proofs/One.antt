@@ -5,7 +5,8 @@ use Rattle.hm_tokens.specs.Tokens.{Tok, number, comma, plus_mark}
 use Rattle.hm_source.specs.declared.values.DatumSize.{DatumSize}
 use Rattle.hm_source.specs.Directives.{Datum, literal, named, beyond, datum_tokens, list_tokens}
 use Rattle.hm_source.specs.Shown.{AreListed}
-use Rattle.hm_source.proofs.Fronts.{mark_is, one_tokens}
+use Rattle.hm_text.proofs.Decided.{mark_is}
+use Rattle.hm_source.proofs.Fronts.{one_tokens}
 
 -- no `+` goes on with what stands before
 abbrev EndsTokens : List Tok → Type 0
@@ -39,7 +40,7 @@ one_front (beyond w n) (literal true m) ts us x y f = absurd cc
 one_front (beyond w n) (named v) ts us x y f = absurd (y (number n ∷ ts) cc)
 one_front (beyond w n) (beyond v m) ts us x y f = (cc, cc)
 
-tail_is : (t u : Tok) (ts us : List Tok) → t ∷ ts ≡ u ∷ us → ts ≡ us
+pub tail_is : (t u : Tok) (ts us : List Tok) → t ∷ ts ≡ u ∷ us → ts ≡ us
 tail_is t u ts us e = cc
 
 -- a list is told by its tokens

@@ -1,7 +1,7 @@
 -- Each vector row has a text of the form, with no lane.
 use Rattle.std.proofs.Common.{◌≡◌, ℕ, ◌<◌, Bool, true, false, List, [], get_or, Option, Some, None, refl, subst, inl, inr, arith}
 use Rattle.std.specs.Prelude.{not, ◌&&◌}
-use Rattle.std.proofs.lemmas.Bool.{and_parts, false≢true}
+use Rattle.std.proofs.lemmas.Bool.{and_parts, not-true}
 use Rattle.hm_isa.specs.declared.Vector.{Vector}
 use Rattle.hm_isa.specs.declared.Vector.TheVariants as vector
 use Rattle.hm_isa.specs.Words.{imm8}
@@ -28,10 +28,6 @@ fine_vector v = grind arith
 pub formed_vector : (v : Vector) → Formed (tokens_of v)
 formed_vector v = record { is = (and_parts (is_formed (tokens_of v)) (not (has_lane (tokens_of v))) (fine_vector v).is).0 }
 
-not_true : (b : Bool) → not b ≡ true → b ≡ false
-not_true true e = absurd (false≢true e)
-not_true false e = refl
-
 -- the other texts
 abbrev none_or_no_lane : Option (List Tok) → Bool
 none_or_no_lane (Some ts) = not (has_lane ts)
@@ -43,5 +39,5 @@ other_lane v = grind arith
 pub no_lane : (v : Vector) (ts : List Tok) → HasTokens v ts → has_lane ts ≡ false
 no_lane v ts (inl is) =
     subst (λ (x : List Tok). has_lane x ≡ false) is
-    (not_true (has_lane (tokens_of v)) (and_parts (is_formed (tokens_of v)) (not (has_lane (tokens_of v))) (fine_vector v).is).1)
-no_lane v ts (inr is) = not_true (has_lane ts) (subst (λ (x : Option (List Tok)). none_or_no_lane x ≡ true) is (other_lane v))
+    (not-true (has_lane (tokens_of v)) (and_parts (is_formed (tokens_of v)) (not (has_lane (tokens_of v))) (fine_vector v).is).1)
+no_lane v ts (inr is) = not-true (has_lane ts) (subst (λ (x : Option (List Tok)). none_or_no_lane x ≡ true) is (other_lane v))

@@ -1,7 +1,7 @@
 -- A text has one line of tokens, and ranges leave lanes as they are.
 use Rattle.std.proofs.Common.{◌≡◌, ℕ, zero, suc, ◌+◌, ◌-◌, Bool, true, false, cond, List, [], ◌∷◌, ◌++◌, Option, Some, None, refl, sym, ap, subst, ◌∙◌}
 use Rattle.std.specs.Prelude.{◌&&◌, ◌||◌}
-use Rattle.std.proofs.lemmas.Bool.{and_parts, false≢true}
+use Rattle.std.proofs.lemmas.Bool.{and_parts, false≢true, or_right}
 use Rattle.hm_text_base.proofs.Steps.{some_is}
 use Rattle.hm_tokens.specs.declared.marks.Mark.TheVariants as marks
 use Rattle.hm_tokens.specs.Lines.{AreTokensOf, IsLineOf}
@@ -48,10 +48,6 @@ is_number_first (mark c ∷ ts) = false
 abbrev pub has_lane : List Tok → Bool
 has_lane [] = false
 has_lane (t ∷ ts) = (is_the_mark marks.OpenBracket t && is_number_first ts) || has_lane ts
-
-or_second : (a b : Bool) → b ≡ true → (a || b) ≡ true
-or_second true b e = refl
-or_second false b e = e
 
 or_cases : (a b c : Bool) → (a || b) ≡ true → (a ≡ true → c ≡ true) → (b ≡ true → c ≡ true) → c ≡ true
 or_cases true b c e f g = f refl
@@ -102,11 +98,11 @@ chosen_lane : (b : Bool) (range behind single ts : List Tok) (t : Tok) → has_l
     → (has_lane behind ≡ true → has_lane ts ≡ true) → (is_number_first single ≡ true → is_number_first ts ≡ true)
     → (has_lane single ≡ true → has_lane ts ≡ true) → has_lane (cond b (range ++ behind) (t ∷ single)) ≡ true → has_lane (t ∷ ts) ≡ true
 chosen_lane true range behind single ts t same more number_ lane e =
-    or_second (is_the_mark marks.OpenBracket t && is_number_first ts) (has_lane ts) (more (sym same ∙ e))
+    or_right (is_the_mark marks.OpenBracket t && is_number_first ts) (has_lane ts) (more (sym same ∙ e))
 chosen_lane false range behind single ts t same more number_ lane e =
     or_cases (is_the_mark marks.OpenBracket t && is_number_first single) (has_lane single) (has_lane (t ∷ ts)) e
     (λ f. front (and_parts (is_the_mark marks.OpenBracket t) (is_number_first single) f))
-    (λ f. or_second (is_the_mark marks.OpenBracket t && is_number_first ts) (has_lane ts) (lane f))
+    (λ f. or_right (is_the_mark marks.OpenBracket t && is_number_first ts) (has_lane ts) (lane f))
   where
     both : (a b c : Bool) → a ≡ true → b ≡ true → ((a && b) || c) ≡ true
     both a b c p q = rw (p, q) refl
@@ -117,7 +113,7 @@ chosen_lane false range behind single ts t same more number_ lane e =
 singles_lane : (ts : List Tok) (over : ℕ) (inside : Bool) → has_lane (singles over inside ts) ≡ true → has_lane ts ≡ true
 unfolding singles
 singles_lane [] over inside e = e
-singles_lane (t ∷ ts) (suc over) inside e = or_second (is_the_mark marks.OpenBracket t && is_number_first ts) (has_lane ts) (singles_lane ts over inside e)
+singles_lane (t ∷ ts) (suc over) inside e = or_right (is_the_mark marks.OpenBracket t && is_number_first ts) (has_lane ts) (singles_lane ts over inside e)
 singles_lane (t ∷ ts) zero inside e =
     chosen_lane (inside && is_rising (register_of t) (last_register ts)) (range_tokens (register_of t) (last_register ts)) (singles 2 inside ts)
     (singles 0 (is_inside inside t) ts) ts t

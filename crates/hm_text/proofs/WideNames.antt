@@ -1,6 +1,6 @@
 -- The mnemonic of a row of two halfwords that is no vector row: no row of one halfword has it, and no vector row has it but `vmov.32`,
 -- which there has a lane.
-use Rattle.std.proofs.Common.{◌≡◌, ◌⊎◌, ℕ, zero, suc, ◌%◌, ◌<◌, Bool, true, false, List, [], ◌∷◌, ◌++◌, refl, sym, ap, inl, inr, ◌∙◌, arith}
+use Rattle.std.proofs.Common.{◌≡◌, ℕ, zero, suc, ◌%◌, ◌<◌, Bool, true, false, List, [], ◌∷◌, ◌++◌, refl, sym, ap, inl, inr, ◌∙◌, arith}
 use Rattle.std.specs.Prelude.{bytes_eq, codes, is_none, not, ◌&&◌, ◌||◌}
 use Rattle.std.proofs.lemmas.Bool.{agree_below, agree_below_at, and_parts, false≢true}
 use Rattle.hm_isa.specs.declared.Vector.{Vector}
@@ -8,6 +8,7 @@ use Rattle.hm_isa.specs.declared.narrow.ListName.{ListName}
 use Rattle.hm_isa.specs.declared.narrow.S25.TheVariants as s25
 use Rattle.hm_isa.specs.declared.widths.NarrowRow.{NarrowRow}
 use Rattle.hm_isa.specs.declared.widths.NarrowRow.TheVariants as narrow
+use Rattle.hm_layout.proofs.Bits.{or_cases}
 use Rattle.hm_tokens.specs.Tokens.{Tok, word, number, mark}
 use Rattle.hm_text16_codes.specs.Names.{byte_names, hint_names, jump_names, logic_names, masking_names, plain_names, shift_names, swap_names}
 use Rattle.hm_text16_codes.specs.Names.{word_names, zero_names}
@@ -101,15 +102,11 @@ or_not : (v b : Bool) → (not v || b) ≡ true → v ≡ true → b ≡ true
 or_not true b e v = e
 or_not false b e v = absurd (false≢true v)
 
-or_parts : (a b : Bool) → (a || b) ≡ true → (a ≡ true) ⊎ (b ≡ true)
-or_parts true b e = inl refl
-or_parts false b e = inr e
-
 -- a vector row with such a mnemonic has a lane
 pub vector_with_lane : (w : List ℕ) (ts us : List Tok) (v : Vector) → is_wide_name w ts ≡ true → HasTokens v (word w ∷ us) → has_lane ts ≡ true
 vector_with_lane w ts us v e has =
     let p = and_parts (is_not_narrow w) (not (begins_with_v w) || (is_other w || has_lane ts)) e in
-    elim (or_parts (is_other w) (has_lane ts) (or_not (begins_with_v w) (is_other w || has_lane ts) p.1 (vector_named v (word w ∷ us) has))) [
+    elim (or_cases (is_other w) (has_lane ts) (or_not (begins_with_v w) (is_other w || has_lane ts) p.1 (vector_named v (word w ∷ us) has))) [
       | inl is ↦ absurd (not_other v w us has is)
       | inr lane ↦ lane
     ]
