@@ -1,6 +1,6 @@
 //! Images of any form.
 
-ghost use Rattle.std.specs.Prelude.{◌≡◌, ◌≤◌, length};
+ghost use Rattle.std.specs.Prelude.{◌≤◌, length};
 ghost use Rattle.hm_elf.specs.ReadImage.{Gives};
 ghost use Rattle.hm_host.specs.Host.{longest};
 ghost use Rattle.hm_commands.specs.Images.{image_of};

@@ -5,7 +5,6 @@ ghost use Rattle.hm_base.specs.Image.{Segment};
 ghost use Rattle.hm_codes.specs.Listing.{Listing};
 ghost use Rattle.hm_commands.specs.Images.{image_of};
 ghost use Rattle.hm_host.specs.Host.{longest};
-ghost use Rattle.hm_sched.specs.Schedule.{Sched};
 ghost use Rattle.hm_sched.specs.ReadFile.{Gives as GivesSchedule};
 ghost use Rattle.hm_words.specs.Words.{source_meant, source_reads};
 ghost use Rattle.hm_commands.specs.Commands.{AreListings, IsCompared, IsDebugOutcome, IsJournalOutcome, IsMigrateOutcome, IsReplayOutcome, OfRun};

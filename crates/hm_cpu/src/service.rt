@@ -1,6 +1,6 @@
 //! What a program asks of its host by a breakpoint: Arm's semihosting, the operations WRITEC, WRITE0 and EXIT.
 
-ghost use Rattle.std.specs.Prelude.{◌≡◌, ◌+◌, ◌≤◌, ◌++◌, [], ◌∷◌, false, length, None, Ok, IfOk, IsTrue, OnErr};
+ghost use Rattle.std.specs.Prelude.{◌≡◌, ◌+◌, ◌≤◌, ◌++◌, [], ◌∷◌, false, None, Ok, IfOk, IsTrue, OnErr};
 ghost use Rattle.std.specs.Vec.{vec_capacity, vec_len};
 ghost use Rattle.hm_cpu.specs.Cpus.{executed, state_in, IsServed};
 ghost use Rattle.hm_cpu.specs.Services.{asked_by, asked_for, told, AreFree, IsThere};

@@ -1,9 +1,8 @@
 //! A script is read whole before its first command is done.
 
-ghost use Rattle.std.specs.Prelude.{◌≡◌, ◌+◌, ◌≤◌, ◌<◌, false, true, nat_lt, [], ◌∷◌, length, List, IfSome, IfNone, IfErr, OnOk};
+ghost use Rattle.std.specs.Prelude.{◌≡◌, ◌+◌, ◌≤◌, ◌<◌, false, nat_lt, [], ◌∷◌, length, List, IfSome, IfNone, IfErr, OnOk};
 ghost use Rattle.hm_text_base.specs.Spans.{lines_of};
-ghost use Rattle.hm_debug.specs.Commands.{Says};
-ghost use Rattle.hm_debug.specs.Scripts.{IsFirstBad, IsScript, SayAll, ScriptRefuses, lines_in, most_lines};
+ghost use Rattle.hm_debug.specs.Scripts.{IsScript, SayAll, ScriptRefuses, lines_in, most_lines};
 ghost use Rattle.hm_debug.specs.declared.command.Command.{Command};
 
 use crate::command::read_command;

@@ -1,9 +1,8 @@
 //! Going to a tick of the run, and the line that names it.
 
-ghost use Rattle.std.specs.Prelude.{◌≡◌, ◌+◌, ◌-◌, ◌≤◌, ◌++◌, ◌&&◌, nat_eq, IfOk, IfSome};
+ghost use Rattle.std.specs.Prelude.{◌≡◌, ◌+◌, ◌-◌, ◌≤◌, ◌&&◌, nat_eq, IfOk, IfSome};
 ghost use Rattle.hm_debug.specs.Answers.{Gives, at_end, at_tick, found_or_end, next_at, reaches, to_tick};
 ghost use Rattle.hm_debug.specs.Films.{Film, IsFilm, ShowsTick};
-ghost use Rattle.hm_debug.specs.Lines.{end_line, tick_line};
 ghost use Rattle.hm_machine.specs.Shown.{timed_of};
 ghost use Rattle.hm_machine.specs.TapeLending.{TapeStays};
 ghost use Rattle.std.specs.Borrow.{sem};

@@ -1,9 +1,9 @@
 //! Doing a script: each command, at the place where the one before it left off.
 
-ghost use Rattle.std.specs.Prelude.{◌≡◌, ℕ, ◌+◌, ◌/◌, ◌≤◌, ◌++◌, List, IfOk, IfErr, OnOk};
+ghost use Rattle.std.specs.Prelude.{◌≡◌, ◌+◌, ◌/◌, ◌≤◌, ◌++◌, List, IfOk, IfErr, OnOk};
 ghost use Rattle.hm_base.specs.Image.{Segment, flash_byte};
 ghost use Rattle.hm_codes.specs.Listing.{IsListing, Listing};
-ghost use Rattle.hm_debug.specs.Answers.{Gives, IsAnswered, answer, answers, stay};
+ghost use Rattle.hm_debug.specs.Answers.{Gives, IsAnswered, answer, answers};
 ghost use Rattle.hm_debug.specs.Commands.{Fits, Says};
 ghost use Rattle.hm_debug.specs.Films.{Film, IsFilm, film_of};
 ghost use Rattle.hm_debug.specs.Lines.{listing_lines, memory_lines};

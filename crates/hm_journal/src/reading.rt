@@ -1,14 +1,14 @@
 //! A journal read from text.
 
-ghost use Rattle.std.specs.Prelude.{◌≡◌, ◌↔◌, ℕ, ◌*◌, ◌<◌, ◌≤◌, ◌^◌, codes, length, List, map, None, Some, IfOk, IfErr, IfNone, IfSome, IsTrue, option_map};
-ghost use Rattle.std.specs.Prelude.{option_and_then, slice_get};
+ghost use Rattle.std.specs.Prelude.{◌≡◌, ◌↔◌, ℕ, ◌<◌, ◌≤◌, ◌^◌, length, List, map, None, Some, IfOk, IfErr, IfNone, IfSome, IsTrue, option_map};
+ghost use Rattle.std.specs.Prelude.{option_and_then};
 ghost use Rattle.serde_json.specs.Find.{as_array, get};
 ghost use Rattle.serde_json.specs.Errors.{IsMemory};
 ghost use Rattle.serde_json.specs.View.{items_view, view};
 ghost use Rattle.hm_journal.specs.Journals.{AreSmall, AreTicks, HasFormat, IsFormat, IsJournal, IsJournalFile, number_at, ReportAt, Journaled, journal_data};
 ghost use Rattle.hm_journal.specs.Journals.{checkpoint_data, most_checkpoints};
 ghost use Rattle.hm_journal.specs.Outcomes.{IsReadErr};
-ghost use Rattle.hm_journal.specs.Views.{checkpoint_of, journal_with, drafted};
+ghost use Rattle.hm_journal.specs.Views.{checkpoint_of, drafted};
 
 use crate::journal::{Checkpoint, Journal, JournalErr, MOST_CHECKPOINTS};
 use crate::writing::journal_text;

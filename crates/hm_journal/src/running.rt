@@ -1,6 +1,6 @@
 //! The journal of a run: written, and compared with another run.
 
-ghost use Rattle.std.specs.Prelude.{◌≡◌, ◌↔◌, ℕ, ◌*◌, ◌/◌, ◌+◌, ◌≤◌, List, length, map, string_bytes, IfOk, IfErr, OnOk, IsTrue};
+ghost use Rattle.std.specs.Prelude.{◌≡◌, ◌↔◌, ◌*◌, ◌/◌, ◌+◌, ◌≤◌, List, length, map, string_bytes, IfOk, IfErr, OnOk, IsTrue};
 ghost use Rattle.hm_base.specs.Image.{Segment, flash_byte};
 ghost use Rattle.hm_codes.specs.Listing.{Listing, IsListing};
 ghost use Rattle.hm_journal.specs.Journals.{IsJournalFile, journal_text, most_checkpoints};

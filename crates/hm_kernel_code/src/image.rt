@@ -1,6 +1,6 @@
 //! The image of a text: one segment in flash, and one for each array that is given values.
 
-ghost use Rattle.std.specs.Prelude.{◌≡◌, ℕ, ◌<◌, ◌≤◌, All, List, length, IfOk};
+ghost use Rattle.std.specs.Prelude.{◌≡◌, ◌<◌, ◌≤◌, List, length, IfOk};
 ghost use Rattle.hm_base.specs.Image.{Segment, IsApart, IsImage, IsPlaced, flash_byte, flash_size, flat, word_at};
 ghost use Rattle.hm_base.specs.declared.errors.ImageErr.TheVariants as image_err;
 ghost use Rattle.hm_kernel_code.specs.Images.{IsImageOf, IsMade, flash_bytes};

@@ -1,6 +1,6 @@
 //! The instructions of lines: a loop each, whose last turn does what is left.
 
-ghost use Rattle.std.specs.Prelude.{◌≡◌, ◌<◌, ◌≤◌, ◌++◌, ◌∷◌, [], length, map, All, IfOk};
+ghost use Rattle.std.specs.Prelude.{◌<◌, ◌++◌, ◌∷◌, [], length, map, IfOk};
 ghost use Rattle.hm_kernel_code.specs.Appending.{Appends};
 ghost use Rattle.hm_kernel_code.specs.Instructions.{AreItems};
 ghost use Rattle.hm_kernel_lang.specs.Code.{code, end_code, head_code, line_code};

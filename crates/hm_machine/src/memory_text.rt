@@ -1,6 +1,6 @@
 //! The memory file of a run.
 
-ghost use Rattle.std.specs.Prelude.{◌≡◌, ◌++◌, ◌+◌, ◌*◌, ◌<◌, ◌≤◌, IfOk};
+ghost use Rattle.std.specs.Prelude.{◌≡◌, ◌++◌, ◌+◌, ◌<◌, ◌≤◌, IfOk};
 ghost use Rattle.hm_base.specs.Image.{sram_start, sram_size};
 ghost use Rattle.hm_mem.specs.Memory.{memory_of, byte_at, tainted_at};
 ghost use Rattle.hm_state.specs.State.{byte_of_bits, listed};

@@ -1,6 +1,6 @@
 //! How a machine gets to a tick of its run.
 
-ghost use Rattle.std.specs.Prelude.{◌≡◌, ◌⊎◌, ℕ, ◌+◌, ◌-◌, ◌*◌, ◌^◌, ◌<◌, ◌≤◌, List, length, IfOk, OnOk, IfErr, IsSome};
+ghost use Rattle.std.specs.Prelude.{◌≡◌, ◌⊎◌, ℕ, ◌+◌, ◌-◌, ◌*◌, ◌^◌, ◌<◌, ◌≤◌, List, length, IfOk, OnOk, IsSome};
 ghost use Rattle.hm_base.specs.Image.{Segment};
 ghost use Rattle.hm_machine.specs.Shown.{Shown, Shows, fixed_of};
 ghost use Rattle.hm_machine.specs.Tapes.{AreApart, AreKept, ShowsTick, first_of};

@@ -1,6 +1,6 @@
 //! The code of a soak, from its draws.
 
-ghost use Rattle.std.specs.Prelude.{◌≡◌, ◌++◌, ◌/◌, ◌%◌, ◌<◌, [], ◌∷◌, IfOk};
+ghost use Rattle.std.specs.Prelude.{◌≡◌, ◌/◌, ◌%◌, ◌<◌, [], ◌∷◌, IfOk};
 ghost use Rattle.hm_soak.specs.Adding.{AddsCodes};
 ghost use Rattle.hm_soak_laws.specs.Soak.{Bkpt, Movt, Movw, code, draw, drawn, fill, filled, handler, head, many, operations};
 

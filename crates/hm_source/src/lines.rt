@@ -1,6 +1,6 @@
 //! The lines of a source, and what each of them says.
 
-ghost use Rattle.std.specs.Prelude.{◌≡◌, ◌<◌, ◌≤◌, ◌^◌, ◌∷◌, ℕ, length, IfErr, IfOk, IsOk, option_map};
+ghost use Rattle.std.specs.Prelude.{◌≡◌, ◌<◌, ◌≤◌, ◌^◌, ◌∷◌, length, IfErr, IfOk, IsOk, option_map};
 ghost use Rattle.hm_source.specs.Lines.{name_column, name_of, shifted, source_lines, text_column, text_of};
 ghost use Rattle.hm_source.specs.Unread.{IsUnread};
 ghost use Rattle.hm_source.specs.Shown.{ShowsSaid};

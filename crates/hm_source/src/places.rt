@@ -1,6 +1,6 @@
 //! Which addresses a line takes.
 
-ghost use Rattle.std.specs.Prelude.{◌≡◌, ◌<◌, ◌≤◌, ◌^◌, ◌+◌, ◌*◌, ◌↔◌, ℕ, List, IsTrue, IsSome, IfSome, MatchOption};
+ghost use Rattle.std.specs.Prelude.{◌≡◌, ◌<◌, ◌^◌, ◌+◌, ◌*◌, ◌↔◌, ℕ, List, IsTrue, IsSome, IfSome, MatchOption};
 ghost use Rattle.hm_source.specs.Directives.{Directed};
 ghost use Rattle.hm_source.specs.Places.{HasPlace, HasRoom, next_place, padding};
 ghost use Rattle.hm_source.specs.Shown.{ShowsSaid, ShowsDirected};
