@@ -1,7 +1,7 @@
 //! What there is to execute at an address: the instruction that stands there, or a fault.
 #![tactic(auto)]
 
-ghost use Rattle.std.specs.Prelude.{◌≡◌, ◌+◌, ◌≤◌, ◌<◌, false, IsTrue, IfSome, IfNone, [], ◌∷◌};
+ghost use Rattle.std.specs.Prelude.{◌≡◌, ◌+◌, ◌≤◌, ◌<◌, false, IfSome, IfNone, [], ◌∷◌};
 ghost use Rattle.hm_base.specs.Image.{flash_size};
 ghost use Rattle.hm_isa.specs.declared.Instr.{Instr};
 ghost use Rattle.hm_isa.specs.declared.Vector.{Vector};
