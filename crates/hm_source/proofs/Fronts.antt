@@ -84,9 +84,5 @@ pub if_none : {A : Type 0} (o : Option A) (P : Type 0) → P → IfNone o P
 if_none (Some x) P p = tt
 if_none None P p = p
 
-pub empty_text : (text : List ℕ) → length text ≡ 0 → text ≡ []
-empty_text [] e = refl
-empty_text (b ∷ bs) e = absurd (omega arith)
-
 pub not_empty : (here rest : List ℕ) → (length here ≡ 0 → ⊥) → here ≡ skip rest → skip rest ≡ [] → ⊥
 not_empty here rest some is e = some (ap length (is ∙ e))

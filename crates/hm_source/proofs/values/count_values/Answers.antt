@@ -1,9 +1,10 @@
 use Rattle.std.proofs.Common.{◌≡◌, ◌∷◌, [], length, sym, ap, subst, ◌∙◌, arith}
 use Rattle.std.proofs.lemmas.Bool.{eqb-false, eqb-true, false≢true}
+use Rattle.std.proofs.lemmas.List.{nil_from_length}
 use Rattle.hm_tokens.specs.Tokens.{skip}
 use Rattle.hm_source.specs.Directives.{Datum, Fits}
 use Rattle.hm_source.specs.Shown.{datum}
-use Rattle.hm_source.proofs.Fronts.{empty_text, if_none, not_empty}
+use Rattle.hm_source.proofs.Fronts.{if_none, not_empty}
 use Rattle.hm_source.proofs.Listed.{listed_alone, listed_behind, listed_first, listed_last, listed_more, not_listed}
 use Rattle.hm_source.proofs.values.count_values.Goals as goal
 
@@ -39,7 +40,7 @@ pub returns-then-is_empty-clause-found : goal.returns-then-is_empty-clause-found
 returns-then-is_empty-clause-found c =
     let fits : Fits c.args.size (datum c.in_ok-item.item) = c.fits.ensures.value.0 c.if-not-fits.false in
     let empty : skip c.in_ok-item.behind.now ≡ [] = sym c.skip.ensures.rest
-    ∙ empty_text c.skip.result.now (eqb-true (length c.skip.result.now) 0 (sym c.is_empty.ensures ∙ c.if-is_empty.true)) in
+    ∙ nil_from_length c.skip.result.now (eqb-true (length c.skip.result.now) 0 (sym c.is_empty.ensures ∙ c.if-is_empty.true)) in
     let w = c.loop-item.invariant.whole (datum c.in_ok-item.item) []
     (listed_last c.args.size c.loop-item.rest.now c.in_ok-item.behind.now (datum c.in_ok-item.item) c.in_ok-item.ensures.found empty fits) in
     (w.0, w.1, w.2, sym w.3)
@@ -47,7 +48,7 @@ returns-then-is_empty-clause-found c =
 pub returns-then-is_empty-clause-only : goal.returns-then-is_empty-clause-only
 returns-then-is_empty-clause-only c d ds l =
     let empty : skip c.in_ok-item.behind.now ≡ [] = sym c.skip.ensures.rest
-    ∙ empty_text c.skip.result.now (eqb-true (length c.skip.result.now) 0 (sym c.is_empty.ensures ∙ c.if-is_empty.true)) in
+    ∙ nil_from_length c.skip.result.now (eqb-true (length c.skip.result.now) 0 (sym c.is_empty.ensures ∙ c.if-is_empty.true)) in
     let x = c.loop-item.invariant.left d ds l in
     let alone : length x.1 ≡ 0 = ap length
     (listed_alone c.args.size c.loop-item.rest.now c.in_ok-item.behind.now x.0 x.1 (λ e r f h. (c.in_ok-item.ensures.only e r f h).1) empty x.2) in
