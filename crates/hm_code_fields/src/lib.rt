@@ -1,4 +1,5 @@
-//! The fields of codes of two halfwords, each by the place of its lowest bit: read, and placed.
+//! The fields of codes of two halfwords, each by the place of its lowest bit: read, and placed; and names with the bit that says whether
+//! elements are signed.
 #![tactic(auto)]
 
 ghost use Rattle.std.specs.Prelude.{◌≡◌, ◌≢◌, ◌<◌, ◌+◌, ◌*◌, ◌/◌, ◌%◌, ◌^◌, ◌⊎◌, ℕ, Bool, ◌||◌, nat_eq, IsTrue, MatchOption, IfSome, IfNone};
@@ -67,15 +68,16 @@ pub fn general(w: u32, position: u32) -> Option<Register>
     Some(Below::new(r))
 }
 
-/// The name and bit 28 of a code without its other fields, in a row where that bit says of some names whether elements are signed, and is
-/// a bit of the other names' own codes: `name_of` finds a name by its code without fields, and `says_sign` tells of which it says so.
-pub fn signed_name<N: Copy, F: Fn(u32) -> Option<N>, G: Fn(N) -> bool>(
+/// The name and the letter u of a code without its other fields: u is bit 28 where the name says by it whether elements are signed; else
+/// that bit belongs to the name's own code, and u is 0. `name_of` finds a name by its code without fields, and `says_sign` tells which
+/// names say so.
+pub fn name_and_sign<N: Copy, F: Fn(u32) -> Option<N>, G: Fn(N) -> bool>(
     rest: u32,
     name_of: F,
     says_sign: G,
 ) -> Option<(N, Bit)>
-    requires finds { F.IsAlwaysCallable name_of }
-    requires tells { G.IsAlwaysCallable says_sign }
+    requires name_callable { F.IsAlwaysCallable name_of }
+    requires sign_callable { G.IsAlwaysCallable says_sign }
     ensures found { (base : N → ℕ) → FindsNames base (F.post name_of) → IfSome result (λ p. base p.0 + p.1.value * 2 ^ 28 ≡ rest) }
     ensures signs { (has_sign : N → Bool) → TellsSigns has_sign (G.post says_sign) → IfSome result (λ p. IsTrue (has_sign p.0 || nat_eq p.1.value 0)) }
     ensures none { (base : N → ℕ) (has_sign : N → Bool) → FindsNames base (F.post name_of) → TellsSigns has_sign (G.post says_sign)

@@ -12,7 +12,7 @@ ghost use Rattle.hm_isa.specs.Code.{scalar_base, dup_base, offsets_base};
 ghost use Rattle.hm_isa.specs.Code.{code_v10, code_v17, code_v18, code_v19, vector_code};
 ghost use Rattle.hm_isa.specs.Rules.{has_sign, is_signed_by};
 
-use hm_code_fields::{bit, bits, general, place_step, q_register, signed_name, size_at, step};
+use hm_code_fields::{bit, bits, general, name_and_sign, place_step, q_register, size_at, step};
 use hm_isa::{
     Below, Bit, Element, Offsets, OffsetsName, ScalarName, V10, V17, V18, V19, Vector,
     WrappedOffsets,
@@ -79,7 +79,7 @@ fn signed_scalar(rest: u32) -> Option<(ScalarName, Bit)>
     ensures signs { IfSome result (λ p. IsTrue (is_signed_by p.0 p.1.value)) }
     ensures none { IfNone result ((x : ScalarName) (u : ℕ) → u < 2 → IsTrue (is_signed_by x u) → scalar_base x + u * 2 ^ 28 ≡ rest → ⊥) }
 {
-    signed_name(rest, scalar_name, says_sign)
+    name_and_sign(rest, scalar_name, says_sign)
 }
 
 /// Operations of elements and a core register

@@ -6,8 +6,8 @@ mod pairs;
 mod shifts;
 
 pub use ones::{
-    base_of_narrow, base_of_one, base_of_reverse, decode_one, encode_v12, encode_v13, encode_v14,
-    encode_v15, encode_v16,
+    base_of_narrowing, base_of_one, base_of_reverse, decode_one, encode_v12, encode_v13,
+    encode_v14, encode_v15, encode_v16,
 };
 pub use pairs::{
     base_of_add, base_of_bitwise, base_of_carry, base_of_complex_sum, base_of_doubling,

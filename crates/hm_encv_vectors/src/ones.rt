@@ -342,7 +342,7 @@ pub fn encode_v15(r: &V15) -> u32
 }
 
 /// The operation of the row V16 whose code without its fields is this.
-fn narrow_name(base: u32) -> Option<NarrowingName>
+fn narrowing_name(base: u32) -> Option<NarrowingName>
     ensures found { IfSome result (λ x. narrow_base x ≡ base) }
     ensures none { IfNone result ((x : NarrowingName) → narrow_base x ≡ base → ⊥) }
 {
@@ -356,7 +356,7 @@ fn narrow_name(base: u32) -> Option<NarrowingName>
 }
 
 /// The code of a name of the row V16 without its fields.
-pub fn base_of_narrow(name: NarrowingName) -> u32
+pub fn base_of_narrowing(name: NarrowingName) -> u32
     ensures value { result ≡ narrow_base name }
 {
     match name {
@@ -376,7 +376,7 @@ fn decode_v16(w: u32) -> Option<V16>
     let t = bit(w, 12);
     let d = q_register(w, 13);
     let m = q_register(w, 1);
-    let name = narrow_name(
+    let name = narrowing_name(
         w - (z.get() << 18) - (t.get() << 12) - (d.get() << 13) - (m.get() << 1),
     )?;
     Some(V16 { name, z, t, d, m })
@@ -386,7 +386,7 @@ fn decode_v16(w: u32) -> Option<V16>
 pub fn encode_v16(r: &V16) -> u32
     ensures value { result ≡ code_v16 r.now }
 {
-    base_of_narrow(r.name)
+    base_of_narrowing(r.name)
         + (r.z.get() << 18)
         + (r.t.get() << 12)
         + (r.d.get() << 13)

@@ -6,7 +6,7 @@ ghost use Rattle.hm_isa.specs.declared.vectors.V11.{V11};
 ghost use Rattle.hm_isa.specs.Code.{constant_shift_base, code_v11};
 ghost use Rattle.hm_isa.specs.Rules.{has_size, is_shifted_by, shift_has_sign};
 
-use hm_code_fields::{bit, bits, q_register, signed_name};
+use hm_code_fields::{bit, bits, name_and_sign, q_register};
 use hm_isa::{Below, Bit, ConstantShiftName, V11};
 
 /// The operation of the row V11 whose code without its fields is this.
@@ -57,7 +57,7 @@ fn signed_shift(rest: u32) -> Option<(ConstantShiftName, Bit)>
     ensures signs { IfSome result (λ p. IsTrue (is_shifted_by p.0 p.1.value)) }
     ensures none { IfNone result ((x : ConstantShiftName) (u : ℕ) → u < 2 → IsTrue (is_shifted_by x u) → constant_shift_base x + u * 2 ^ 28 ≡ rest → ⊥) }
 {
-    signed_name(rest, shift_name, says_sign)
+    name_and_sign(rest, shift_name, says_sign)
 }
 
 /// The size and the shift in w, or None where they are of no size.

@@ -27,9 +27,9 @@ fn said(alloc: Global, statement: Statement<'_>) -> Result<String> {
         Statement::Directive(Directive::Space(count)) => Ok(format!(in alloc; "space {count:x}")?),
         Statement::Directive(Directive::Values(values)) => {
             let count = values.count;
-            let width = values.size.bytes();
+            let bytes = values.size.bytes();
             let list = values.list.escape_ascii();
-            Ok(format!(in alloc; "{count} of {width} in \"{list}\"")?)
+            Ok(format!(in alloc; "{count} of {bytes} in \"{list}\"")?)
         }
     }
 }

@@ -16,7 +16,7 @@ use Rattle.hm_isa.specs.declared.vectors.ReverseName.TheVariants as rev
 use Rattle.hm_isa.specs.declared.vectors.V15.{V15}
 use Rattle.hm_isa.specs.declared.vectors.V16.{V16}
 use Rattle.hm_isa.specs.declared.vectors.NarrowingName.{NarrowingName}
-use Rattle.hm_isa.specs.declared.vectors.NarrowingName.TheVariants as narrow
+use Rattle.hm_isa.specs.declared.vectors.NarrowingName.TheVariants as narrowing
 use Rattle.hm_isa.specs.declared.vectors.V17.{V17}
 use Rattle.hm_isa.specs.declared.vectors.OffsetsName.{OffsetsName}
 use Rattle.hm_isa.specs.declared.vectors.OffsetsName.TheVariants as offsets
@@ -88,18 +88,18 @@ constant_row r = words_row false r.d.value (λ b. []) (λ b slice. constant_new 
 -- NARROW ELEMENTS
 -- V16: whether an instruction saturates: VQMOVN and VQMOVUN do, and VMOVN does not
 abbrev pub narrowing_saturates : NarrowingName → Bool
-narrowing_saturates narrow.Plain = false
+narrowing_saturates narrowing.Plain = false
 narrowing_saturates n = true
 
 -- V16: whether the wide elements are unsigned: those of VQMOVN of unsigned elements
 abbrev pub takes_unsigned : NarrowingName → Bool
-takes_unsigned narrow.Unsigned = true
+takes_unsigned narrowing.Unsigned = true
 takes_unsigned n = false
 
 -- V16: whether the narrow elements are unsigned: those of VQMOVUN and of VQMOVN of unsigned elements
 abbrev pub gives_unsigned : NarrowingName → Bool
-gives_unsigned narrow.Unsigned = true
-gives_unsigned narrow.ToUnsigned = true
+gives_unsigned narrowing.Unsigned = true
+gives_unsigned narrowing.ToUnsigned = true
 gives_unsigned n = false
 
 -- the narrow element of a wide one, and whether it saturates

@@ -114,8 +114,8 @@ transfer_is t l q i k =
 abbrev pub stands_at : ElementType → ℕ → ℕ → ℕ
 stands_at t base j = ((base + 0) % 2 ^ 32 + byte_count (size_of_type t) * j) % 2 ^ 32
 
-pub width_is : (t : ElementType) → byte_count (size_of_type t) ≡ bytes t
-width_is t = grind arith
+pub byte_count_is : (t : ElementType) → byte_count (size_of_type t) ≡ bytes t
+byte_count_is t = grind arith
 
 count_is : (t : ElementType) → count (size_of_type t) ≡ lanes t
 count_is t = grind arith
@@ -141,7 +141,7 @@ inside_of t base left j a l h i k = record { is = omega arith; aligned = omega a
 no_fault_at : (t : ElementType) (store : Bool) (base j : ℕ) → IsInside t base j
     → fault_after (fault_kind true Vector store (byte_count (size_of_type t)) (stands_at t base j)) (stands_at t base j) ≡ None
 no_fault_at t store base j h =
-    ap (λ (w : ℕ). fault_after (fault_kind true Vector store w (stands_at t base j)) (stands_at t base j)) (width_is t)
+    ap (λ (w : ℕ). fault_after (fault_kind true Vector store w (stands_at t base j)) (stands_at t base j)) (byte_count_is t)
     ∙ ap (λ (a : ℕ). fault_after (fault_kind true Vector store (bytes t) a) a) h.is
     ∙ ap (λ (o : Option FaultKind). fault_after o (base + bytes t * j)) (no_fault store (bytes t) (base + bytes t * j) h.aligned h.low (some_bytes t) h.high)
 

@@ -2,7 +2,7 @@
 use Rattle.std.specs.Prelude.{ℕ, Bool, ◌||◌, List, [], ◌∷◌, drop, slice_index, Option, Some, None, option_and_then, ◌==◌, if◌then◌else◌}
 use Rattle.hm_text_base.specs.Spans.{span}
 use Rattle.hm_kernel_lang.specs.declared.text.Op.{Op}
-use Rattle.hm_kernel_text.specs.Trees.{Tree, word, apply, open_bracket, close_bracket}
+use Rattle.hm_kernel_text.specs.Trees.{Tree, word, apply, open_parenthesis, close_parenthesis}
 use Rattle.hm_kernel_text.specs.Words.{op_in, is_name, is_numeral}
 
 -- AN OPEN OPERATION: its first argument is awaited, or its second behind the first
@@ -24,7 +24,7 @@ close (second o l ∷ fs) t = Some (fs, apply o l t)
 -- behind brackets that all close
 unfoldable pub closed : List Frame → Tree → List ℕ → Option (List Frame × Tree)
 closed fs t [] = Some (fs, t)
-closed fs t (c ∷ cs) = if c == close_bracket then option_and_then (λ s. closed s.0 s.1 cs) (close fs t) else None
+closed fs t (c ∷ cs) = if c == close_parenthesis then option_and_then (λ s. closed s.0 s.1 cs) (close fs t) else None
 
 -- what an argument with no bracket behind it is
 abbrev pub stands : List Frame × Tree → Option Step
@@ -46,7 +46,7 @@ open_step fs w = option_and_then (λ o. Some (part (first o ∷ fs))) (op_in w)
 
 -- one word
 unfoldable pub step_in : List Frame → List ℕ → Option Step
-step_in fs w = if slice_index w 0 == open_bracket then open_step fs (drop 1 w) else leaf_step fs (span close_bracket w)
+step_in fs w = if slice_index w 0 == open_parenthesis then open_step fs (drop 1 w) else leaf_step fs (span close_parenthesis w)
 
 -- what is read where nothing follows, and where words do
 abbrev pub tree_after : Option Step → List (List ℕ) → (List Frame → Option Tree) → Option Tree

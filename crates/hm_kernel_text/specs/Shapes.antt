@@ -3,7 +3,7 @@ use Rattle.std.specs.Prelude.{ℕ, zero, suc, Bool, ◌+◌, List, [], ◌∷◌
 use Rattle.std.specs.Prelude.{◌==◌, if◌then◌else◌}
 use Rattle.hm_text_base.specs.Spans.{span}
 use Rattle.hm_kernel_text.specs.Words.{op_in}
-use Rattle.hm_kernel_text.specs.Trees.{Tree, word, apply, open_bracket, close_bracket}
+use Rattle.hm_kernel_text.specs.Trees.{Tree, word, apply, open_parenthesis, close_parenthesis}
 use Rattle.hm_kernel_text.specs.ReadTree.{is_leaf}
 use Rattle.hm_kernel_text.specs.declared.shape.Side.{Side}
 use Rattle.hm_kernel_text.specs.declared.shape.Side.TheVariants.{First, Second}
@@ -19,7 +19,7 @@ close_side (Second ∷ ss) = Some ss
 -- behind brackets that all close
 unfoldable pub closed_sides : List Side → List ℕ → Option (List Side)
 closed_sides ss [] = Some ss
-closed_sides ss (c ∷ cs) = if c == close_bracket then option_and_then (λ more. closed_sides more cs) (close_side ss) else None
+closed_sides ss (c ∷ cs) = if c == close_parenthesis then option_and_then (λ more. closed_sides more cs) (close_side ss) else None
 
 -- what is open behind an argument: None inside where that was the whole expression
 abbrev pub stands_side : List Side → Option (Option (List Side))
@@ -29,7 +29,7 @@ stands_side (Second ∷ ss) = None
 
 -- a word begins with a bracket that opens
 abbrev pub opens : List ℕ → Bool
-opens w = slice_index w 0 == open_bracket
+opens w = slice_index w 0 == open_parenthesis
 
 -- what is open behind an operation that begins
 abbrev pub open_shape : List Side → List ℕ → Option (Option (List Side))
@@ -41,7 +41,7 @@ leaf_shape ss s = if is_leaf s.0 then option_and_then stands_side (closed_sides 
 
 -- one word
 unfoldable pub shape_in : List Side → List ℕ → Option (Option (List Side))
-shape_in ss w = if opens w then open_shape ss (drop 1 w) else leaf_shape ss (span close_bracket w)
+shape_in ss w = if opens w then open_shape ss (drop 1 w) else leaf_shape ss (span close_parenthesis w)
 
 -- one more behind a word that opens an operation
 abbrev pub operations_behind : ℕ → List ℕ → ℕ
@@ -72,4 +72,4 @@ tree_at (suc n) [] = None
 tree_at (suc n) (w ∷ ws) =
     if opens w then
     option_and_then (λ o. option_and_then (λ l. option_and_then (λ r. Some (apply o l.0 r.0, r.1)) (tree_at n l.1)) (tree_at n ws)) (op_in (drop 1 w))
-    else Some (word (span close_bracket w).0, ws)
+    else Some (word (span close_parenthesis w).0, ws)

@@ -19,18 +19,18 @@ op_text op.And = codes "and"
 op_text op.Or = codes "or"
 op_text op.Xor = codes "xor"
 
--- the bracket that opens an operation
-abbrev pub open_bracket : ℕ
-open_bracket = 40
+-- the parenthesis that opens an operation
+abbrev pub open_parenthesis : ℕ
+open_parenthesis = 40
 
--- the bracket that closes it
-abbrev pub close_bracket : ℕ
-close_bracket = 41
+-- the parenthesis that closes it
+abbrev pub close_parenthesis : ℕ
+close_parenthesis = 41
 
 -- a word, or (OP E E)
 abbrev pub tree_text : Tree → List ℕ
 tree_text (word w) = w
-tree_text (apply o l r) = open_bracket ∷ (op_text o ++ 32 ∷ (tree_text l ++ 32 ∷ (tree_text r ++ close_bracket ∷ [])))
+tree_text (apply o l r) = open_parenthesis ∷ (op_text o ++ 32 ∷ (tree_text l ++ 32 ∷ (tree_text r ++ close_parenthesis ∷ [])))
 
 -- how many names and numbers it has
 abbrev pub leaves : Tree → ℕ

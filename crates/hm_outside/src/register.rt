@@ -171,7 +171,7 @@ impl Register {
     }
 
     /// How many words a value of it has.
-    fn width(self) -> usize
+    fn word_count(self) -> usize
         ensures { result ≤ 4 }
     {
         match self {
@@ -194,7 +194,7 @@ impl Register {
     /// The value that the next words of a line tell.
     pub fn read(self, words: &mut SplitWhitespace<'_>) -> Option<Value> {
         let mut value = [0; 4];
-        for word in value.iter_mut().take(self.width()) {
+        for word in value.iter_mut().take(self.word_count()) {
             *word = u32::from_str_radix(words.next()?, self.radix()).ok()?;
         }
         Some(value)

@@ -7,20 +7,20 @@ use Rattle.hm_isa.specs.declared.vectors.ComplexSumName.TheVariants as complex_s
 use Rattle.hm_isa.specs.declared.vectors.ConstantShiftName.{ConstantShiftName}
 use Rattle.hm_isa.specs.declared.vectors.ConstantShiftName.TheVariants as by_constant
 use Rattle.hm_isa.specs.declared.vectors.NarrowingName.{NarrowingName}
-use Rattle.hm_isa.specs.declared.vectors.NarrowingName.TheVariants as narrow_
+use Rattle.hm_isa.specs.declared.vectors.NarrowingName.TheVariants as narrowing
 use Rattle.hm_isa.specs.declared.vectors.OneName.{OneName}
 use Rattle.hm_isa.specs.declared.vectors.OneName.TheVariants as one
 use Rattle.hm_isa.specs.declared.vectors.ScalarName.{ScalarName}
 use Rattle.hm_isa.specs.declared.vectors.ScalarName.TheVariants as by_scalar
 use Rattle.hm_isa.specs.MemoryRules.{is_access}
 use Rattle.hm_isa.specs.Rules.{is_shifted_by, is_signed_by}
-use Rattle.hm_textv_codes.specs.Asked.{access_sign, compare_sign, narrow_sign}
+use Rattle.hm_textv_codes.specs.Asked.{access_sign, compare_sign, narrowing_sign}
 use Rattle.hm_textv_codes.specs.Operands.{sign_of}
 use Rattle.hm_text_rows.specs.Mnemonics.{element_suffix}
 use Rattle.hm_text_rows.specs.Operands.{size_of}
 use Rattle.hm_text_rows.specs.Shapes.{either}
 use Rattle.hm_text_rows.proofs.Words.{◌▹◌, at_below, below_holds, below_is, is_suffix}
-use Rattle.hm_textv_rows.specs.Mnemonics.{access_suffix, by_sign, compare_suffix, complex_sum_suffix, constant_shift_suffix, integer, narrow_suffix}
+use Rattle.hm_textv_rows.specs.Mnemonics.{access_suffix, by_sign, compare_suffix, complex_sum_suffix, constant_shift_suffix, integer, narrowing_suffix}
 use Rattle.hm_textv_rows.specs.Mnemonics.{one_suffix, scalar_suffix, signed, unsigned}
 
 pub record Suffix (suffix : List ℕ) (is_bare : Bool) (u z : ℕ) : Type 0 where
@@ -100,10 +100,10 @@ suffix_whole (suc (suc op)) lt = absurd (omega arith)
 suffix_whole op lt = record { is = refl; bare = refl; sign = refl; size = refl }
 
 -- V16
-pub suffix_narrow : (name : NarrowingName) {z : ℕ} → z < 2 → Suffix (narrow_suffix name z) false (narrow_sign name) (z + 1)
-suffix_narrow narrow_.Plain lt = suffix_integer (omega arith)
-suffix_narrow narrow_.Unsigned lt = suffix_unsigned (omega arith)
-suffix_narrow name lt = suffix_signed (omega arith)
+pub suffix_narrowing : (name : NarrowingName) {z : ℕ} → z < 2 → Suffix (narrowing_suffix name z) false (narrowing_sign name) (z + 1)
+suffix_narrowing narrowing.Plain lt = suffix_integer (omega arith)
+suffix_narrowing narrowing.Unsigned lt = suffix_unsigned (omega arith)
+suffix_narrowing name lt = suffix_signed (omega arith)
 
 -- V20
 pub suffix_compare : {c z : ℕ} → c < 8 → z < 3 → Suffix (compare_suffix c z) false (compare_sign c) z

@@ -41,7 +41,7 @@ use Rattle.hm_textv_codes.specs.Operands.{read_vector_operands}
 use Rattle.hm_textv_codes.proofs.Addresses.{reads_at_offsets, reads_indexed, reads_pair, reads_quad}
 use Rattle.hm_textv_codes.proofs.Constants.{constant_reads}
 use Rattle.hm_textv_codes.proofs.Endings.{Suffix, no_suffix, signed_access, suffix_access, suffix_by_sign, suffix_compare, suffix_complex_sum}
-use Rattle.hm_textv_codes.proofs.Endings.{suffix_element, suffix_integer, suffix_narrow, suffix_one, suffix_scalar, suffix_shift, suffix_signed}
+use Rattle.hm_textv_codes.proofs.Endings.{suffix_element, suffix_integer, suffix_narrowing, suffix_one, suffix_scalar, suffix_shift, suffix_signed}
 use Rattle.hm_textv_codes.proofs.Endings.{suffix_unsigned, suffix_widening}
 use Rattle.hm_textv_codes.proofs.Forms.{Reads, RowLaw, a_condition, a_register, a_vector, bare, even, low, odd, read_text, reads_four, reads_none}
 use Rattle.hm_textv_codes.proofs.Forms.{reads_one, reads_three, reads_three_constant, reads_two, reads_two_constant, register_or_zero}
@@ -147,7 +147,7 @@ row_law (vector.V14 i) = reads_two (grind arith) (suffix_element (let lt = i.z.i
 row_law (vector.V15 i) =
     let small : imm8 i.i.value i.i3.value i.i4.value < 1000 = omega (arith, i.i.in_range, i.i3.in_range, i.i4.in_range) in
     constant_reads i.op.value i.cm.value (imm8 i.i.value i.i3.value i.i4.value) i.d i.op.in_range i.cm.in_range small
-row_law (vector.V16 i) = reads_two (grind arith) (suffix_narrow i.name i.z.in_range) (a_vector i.d) (a_vector i.m)
+row_law (vector.V16 i) = reads_two (grind arith) (suffix_narrowing i.name i.z.in_range) (a_vector i.d) (a_vector i.m)
 row_law (vector.V17 i) =
     reads_two_constant {s = codes "vshlc"} refl no_suffix (a_vector i.d) (a_register i.m) (grind (arith, i.k.in_range))
 row_law (vector.V18 i) =

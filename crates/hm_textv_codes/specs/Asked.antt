@@ -5,7 +5,7 @@ use Rattle.hm_isa.specs.declared.Vector.{Vector}
 use Rattle.hm_isa.specs.declared.Vector.TheVariants as vector
 use Rattle.hm_isa.specs.declared.vectors.BitwiseName.TheVariants as bitwise
 use Rattle.hm_isa.specs.declared.vectors.NarrowingName.{NarrowingName}
-use Rattle.hm_isa.specs.declared.vectors.NarrowingName.TheVariants as narrow_
+use Rattle.hm_isa.specs.declared.vectors.NarrowingName.TheVariants as narrowing
 use Rattle.hm_isa.specs.declared.vectors.V12.TheVariants as v12
 use Rattle.hm_isa.specs.declared.vectors.V13.TheVariants as v13
 use Rattle.hm_isa.specs.declared.vectors.V15.{V15}
@@ -20,7 +20,7 @@ use Rattle.hm_tokens.specs.Tokens.{Tok}
 use Rattle.hm_textv_rows.specs.Mnemonics.{access_mnemonic, add_mnemonic, bitwise_mnemonic, block_mnemonic, block_word, carry_mnemonic, compare_word}
 use Rattle.hm_textv_rows.specs.Mnemonics.{complex_sum_mnemonic, constant_shift_mnemonic, dot_mnemonic, doubling_mnemonic, extreme_mnemonic, high_mnemonic}
 use Rattle.hm_textv_rows.specs.Mnemonics.{long_dot_mnemonic, long_move_mnemonic, long_product_mnemonic, long_shift_mnemonic, long_sum_mnemonic}
-use Rattle.hm_textv_rows.specs.Mnemonics.{narrow_mnemonic, offsets_mnemonic, one_mnemonic, other_dot_mnemonic}
+use Rattle.hm_textv_rows.specs.Mnemonics.{narrowing_mnemonic, offsets_mnemonic, one_mnemonic, other_dot_mnemonic}
 use Rattle.hm_textv_rows.specs.Mnemonics.{reverse_mnemonic, scalar_mnemonic, signed_mnemonic, size_number, sum_mnemonic, vector_shift_mnemonic}
 use Rattle.hm_textv_rows.specs.Mnemonics.{wrapped_mnemonic}
 use Rattle.hm_textv_rows.specs.Rows.{HasTokens}
@@ -59,7 +59,7 @@ mnemonic_of (vector.V13 (v13.Elements i)) = one_mnemonic i.name
 mnemonic_of (vector.V13 (v13.Not i)) = codes "vmvn"
 mnemonic_of (vector.V14 i) = reverse_mnemonic i.name
 mnemonic_of (vector.V15 i) = constant_mnemonic (constant_number i.op.value i.cm.value)
-mnemonic_of (vector.V16 i) = narrow_mnemonic i.name i.t.value
+mnemonic_of (vector.V16 i) = narrowing_mnemonic i.name i.t.value
 mnemonic_of (vector.V17 i) = codes "vshlc"
 mnemonic_of (vector.V18 i) = codes "vdup"
 mnemonic_of (vector.V19 (v19.Free i)) = offsets_mnemonic i.name
@@ -134,9 +134,9 @@ constant_given op cm d x =
     else two_given 0 (if nat_eq op 0 then 0 else 3) d x
 
 -- V16: 1 where the elements that are read are unsigned (DDI0553, "VQMOVN")
-abbrev pub narrow_sign : NarrowingName → ℕ
-narrow_sign narrow_.Unsigned = 1
-narrow_sign name = 0
+abbrev pub narrowing_sign : NarrowingName → ℕ
+narrowing_sign narrowing.Unsigned = 1
+narrowing_sign name = 0
 
 -- V20: 1 where the condition is of unsigned numbers, cs and hi (DDI0553, "VCMP" and "VPT")
 abbrev pub compare_sign : ℕ → ℕ
@@ -174,7 +174,7 @@ operands_of (vector.V13 (v13.Elements i)) = two_given 0 i.z.value i.d.value i.m.
 operands_of (vector.V13 (v13.Not i)) = bare_given kinds.Missing i.d.value i.m.value 0
 operands_of (vector.V14 i) = two_given 0 i.z.value i.d.value i.m.value
 operands_of (vector.V15 i) = constant_given i.op.value i.cm.value i.d.value (imm8 i.i.value i.i3.value i.i4.value)
-operands_of (vector.V16 i) = two_given (narrow_sign i.name) (i.z.value + 1) i.d.value i.m.value
+operands_of (vector.V16 i) = two_given (narrowing_sign i.name) (i.z.value + 1) i.d.value i.m.value
 operands_of (vector.V17 i) = bare_given kinds.Number i.d.value i.m.value (zero_as_32 i.k.value)
 operands_of (vector.V18 i) = two_given 0 (size_number i.size) i.d.value i.t.value
 operands_of (vector.V19 (v19.Free i)) = shift_given 1 i.z.value i.d.value (2 * i.n.value) (2 ^ i.k.value)

@@ -25,14 +25,14 @@ use Rattle.hm_isa.specs.declared.vectors.OneName.TheVariants as one
 use Rattle.hm_isa.specs.declared.vectors.ReverseName.{ReverseName}
 use Rattle.hm_isa.specs.declared.vectors.ReverseName.TheVariants as reverse_
 use Rattle.hm_isa.specs.declared.vectors.NarrowingName.{NarrowingName}
-use Rattle.hm_isa.specs.declared.vectors.NarrowingName.TheVariants as narrow_
+use Rattle.hm_isa.specs.declared.vectors.NarrowingName.TheVariants as narrowing
 use Rattle.hm_isa.specs.declared.vectors.OffsetsName.{OffsetsName}
 use Rattle.hm_isa.specs.declared.vectors.OffsetsName.TheVariants as offsets
 use Rattle.hm_isa.specs.declared.vectors.ExtremeName.{ExtremeName}
 use Rattle.hm_isa.specs.declared.vectors.ExtremeName.TheVariants as extreme
 use Rattle.hm_text_rows.specs.Names.{block_masks, named, named_with_bit}
 use Rattle.hm_text_rows.specs.Shapes.{either}
-use Rattle.hm_textv_rows.specs.Mnemonics.{access_mnemonic, constant_merge_mnemonic, constant_move_mnemonic, narrow_mnemonic, pair_mnemonic, quad_mnemonic}
+use Rattle.hm_textv_rows.specs.Mnemonics.{access_mnemonic, constant_merge_mnemonic, constant_move_mnemonic, narrowing_mnemonic, pair_mnemonic, quad_mnemonic}
 
 -- V1: VADD, VSUB and VMUL
 abbrev pub add_names : List AddName
@@ -107,8 +107,8 @@ abbrev pub constant_in : List ℕ → Option ℕ
 constant_in s = named constant_mnemonic (0 ∷ 1 ∷ 2 ∷ 3 ∷ []) s
 
 -- V16: the name and the part of VMOVN, VQMOVUN and VQMOVN, by the mnemonic; VQMOVN of unsigned elements differs in its sign alone
-abbrev pub narrow_in : List ℕ → Option (NarrowingName × ℕ)
-narrow_in s = named_with_bit narrow_mnemonic (narrow_.Plain ∷ narrow_.ToUnsigned ∷ narrow_.Signed ∷ []) s
+abbrev pub narrowing_in : List ℕ → Option (NarrowingName × ℕ)
+narrowing_in s = named_with_bit narrowing_mnemonic (narrowing.Plain ∷ narrowing.ToUnsigned ∷ narrowing.Signed ∷ []) s
 
 -- V24 to V27: 1 for a load, and the size in memory of the elements of VSTRB, VSTRH, VSTRW, VLDRB, VLDRH and VLDRW, by the mnemonic
 abbrev pub access_in : List ℕ → Option (ℕ × ℕ)

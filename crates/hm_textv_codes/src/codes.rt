@@ -34,7 +34,7 @@ use crate::access::{code_at_addresses, code_at_base};
 use crate::names::{
     add_name, bit_by, bitwise_name, block_mask, carry_name, compare_mask, complex_sum_name,
     constant_in, constant_shift_name, dot_bit, doubling_name, extreme_name, high_name,
-    long_shift_part, narrow_in, offsets_name, one_name, reverse_name, scalar_name, signed_name,
+    long_shift_part, narrowing_in, offsets_name, one_name, reverse_name, scalar_name, signed_name,
     vector_shift_name, wrapped_name,
 };
 use crate::operands::{Kind, Operands, read_vector_operands};
@@ -43,8 +43,8 @@ use hm_encv_registers::{
 };
 use hm_encv_vectors::{
     base_of_add, base_of_bitwise, base_of_carry, base_of_complex_sum, base_of_constant_shift,
-    base_of_doubling, base_of_high, base_of_narrow, base_of_one, base_of_reverse, base_of_signed,
-    base_of_vector_shift,
+    base_of_doubling, base_of_high, base_of_narrowing, base_of_one, base_of_reverse,
+    base_of_signed, base_of_vector_shift,
 };
 use hm_isa::{BitwiseName, ConstantShiftName, Element};
 use hm_text_base::span;
@@ -440,8 +440,8 @@ fn code_of_two(mnemonic: &[u8], o: &Operands) -> Option<u64>
     if let Some(k) = constant_in(mnemonic) {
         return Some(constant_code(k, o));
     }
-    if let Some((name, t)) = narrow_in(mnemonic) {
-        let base = u64::from(base_of_narrow(name)) + (u64::from(t) << 12);
+    if let Some((name, t)) = narrowing_in(mnemonic) {
+        let base = u64::from(base_of_narrowing(name)) + (u64::from(t) << 12);
         let size = o.size.saturating_sub(1);
         return Some(of_one(base, o.sign, size, o.first, o.second));
     }

@@ -10,7 +10,7 @@ ghost use Rattle.hm_textv_rows.specs.Mnemonics.{high_mnemonic, long_move_mnemoni
 ghost use Rattle.hm_textv_rows.specs.Mnemonics.{offsets_mnemonic, one_mnemonic, other_dot_mnemonic, reverse_mnemonic};
 ghost use Rattle.hm_textv_rows.specs.Mnemonics.{scalar_mnemonic, signed_mnemonic, vector_shift_mnemonic, wrapped_mnemonic};
 ghost use Rattle.hm_textv_codes.specs.Names.{access_in, add_names, bitwise_names, carry_names, complex_sum_names, constant_in};
-ghost use Rattle.hm_textv_codes.specs.Names.{constant_shift_names, doubling_names, extreme_names, high_names, interleaved_in, masks, narrow_in};
+ghost use Rattle.hm_textv_codes.specs.Names.{constant_shift_names, doubling_names, extreme_names, high_names, interleaved_in, masks, narrowing_in};
 ghost use Rattle.hm_textv_codes.specs.Names.{offsets_names, one_names, reverse_names, scalar_names, signed_names, vector_shift_names};
 
 use hm_isa::{
@@ -207,8 +207,8 @@ pub fn constant_in(mnemonic: &[u8]) -> Option<u32>
 }
 
 /// The name and the part of a row V16.
-pub fn narrow_in(mnemonic: &[u8]) -> Option<(NarrowingName, u8)>
-    ensures { result ≡ narrow_in mnemonic.now }
+pub fn narrowing_in(mnemonic: &[u8]) -> Option<(NarrowingName, u8)>
+    ensures { result ≡ narrowing_in mnemonic.now }
 {
     let names = &[
         ((NarrowingName::Plain, 0), "vmovnb"),

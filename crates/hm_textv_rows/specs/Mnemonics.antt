@@ -25,7 +25,7 @@ use Rattle.hm_isa.specs.declared.vectors.OneName.TheVariants as one
 use Rattle.hm_isa.specs.declared.vectors.ReverseName.{ReverseName}
 use Rattle.hm_isa.specs.declared.vectors.ReverseName.TheVariants as reverse_
 use Rattle.hm_isa.specs.declared.vectors.NarrowingName.{NarrowingName}
-use Rattle.hm_isa.specs.declared.vectors.NarrowingName.TheVariants as narrow_
+use Rattle.hm_isa.specs.declared.vectors.NarrowingName.TheVariants as narrowing
 use Rattle.hm_isa.specs.declared.vectors.OffsetsName.{OffsetsName}
 use Rattle.hm_isa.specs.declared.vectors.OffsetsName.TheVariants as offsets
 use Rattle.hm_isa.specs.declared.vectors.ExtremeName.{ExtremeName}
@@ -175,11 +175,11 @@ constant_merge_mnemonic op = either op (codes "vorr") (codes "vbic")
 
 -- V16: the mnemonic of each name, VMOVN, VQMOVUN and VQMOVN, with b for the lower part of each wide element, or t for the upper
 -- (DDI0553, "VMOVN", "VQMOVN" and "VQMOVUN")
-abbrev pub narrow_mnemonic : NarrowingName → ℕ → List ℕ
-narrow_mnemonic narrow_.Plain t = cond (nat_eq t 0) (codes "vmovnb") (codes "vmovnt")
-narrow_mnemonic narrow_.ToUnsigned t = cond (nat_eq t 0) (codes "vqmovunb") (codes "vqmovunt")
-narrow_mnemonic narrow_.Signed t = cond (nat_eq t 0) (codes "vqmovnb") (codes "vqmovnt")
-narrow_mnemonic narrow_.Unsigned t = cond (nat_eq t 0) (codes "vqmovnb") (codes "vqmovnt")
+abbrev pub narrowing_mnemonic : NarrowingName → ℕ → List ℕ
+narrowing_mnemonic narrowing.Plain t = cond (nat_eq t 0) (codes "vmovnb") (codes "vmovnt")
+narrowing_mnemonic narrowing.ToUnsigned t = cond (nat_eq t 0) (codes "vqmovunb") (codes "vqmovunt")
+narrowing_mnemonic narrowing.Signed t = cond (nat_eq t 0) (codes "vqmovnb") (codes "vqmovnt")
+narrowing_mnemonic narrowing.Unsigned t = cond (nat_eq t 0) (codes "vqmovnb") (codes "vqmovnt")
 
 -- V22: VADDV, or VADDVA where a is 1, with which the sum goes on from the old value (DDI0553, "VADDV")
 abbrev pub sum_mnemonic : ℕ → List ℕ
@@ -269,11 +269,11 @@ one_suffix one.Clz z = integer z
 one_suffix name z = signed z
 
 -- V16: the size of the wide elements, by the bit that is 0 where they have 16 bits, and their type (DDI0553, "VMOVN", "VQMOVN" and "VQMOVUN")
-abbrev pub narrow_suffix : NarrowingName → ℕ → List ℕ
-narrow_suffix narrow_.Plain z = integer (z + 1)
-narrow_suffix narrow_.ToUnsigned z = signed (z + 1)
-narrow_suffix narrow_.Signed z = signed (z + 1)
-narrow_suffix narrow_.Unsigned z = unsigned (z + 1)
+abbrev pub narrowing_suffix : NarrowingName → ℕ → List ℕ
+narrowing_suffix narrowing.Plain z = integer (z + 1)
+narrowing_suffix narrowing.ToUnsigned z = signed (z + 1)
+narrowing_suffix narrowing.Signed z = signed (z + 1)
+narrowing_suffix narrowing.Unsigned z = unsigned (z + 1)
 
 -- V24 to V27: the size and the sign of elements; a store has no sign
 -- (DDI0553, "VLDRB, VLDRH, VLDRW", "VSTRB, VSTRH, VSTRW", "VLDRB, VLDRH, VLDRW, VLDRD (vector)" and "VSTRB, VSTRH, VSTRW, VSTRD (vector)")

@@ -30,7 +30,8 @@ use Rattle.hm_textv_rows.specs.Mnemonics.{by_sign, carry_mnemonic, compare_condi
 use Rattle.hm_textv_rows.specs.Mnemonics.{complex_sum_suffix, constant_merge_mnemonic, constant_move_mnemonic, constant_shift_mnemonic}
 use Rattle.hm_textv_rows.specs.Mnemonics.{constant_shift_suffix, dot_mnemonic, doubling_mnemonic}
 use Rattle.hm_textv_rows.specs.Mnemonics.{extreme_mnemonic, high_mnemonic, integer, long_dot_mnemonic, long_move_mnemonic, long_product_mnemonic}
-use Rattle.hm_textv_rows.specs.Mnemonics.{long_shift_mnemonic, long_sum_mnemonic, narrow_mnemonic, narrow_suffix, offsets_mnemonic, one_mnemonic, one_suffix}
+use Rattle.hm_textv_rows.specs.Mnemonics.{long_shift_mnemonic, long_sum_mnemonic, narrowing_mnemonic}
+use Rattle.hm_textv_rows.specs.Mnemonics.{narrowing_suffix, offsets_mnemonic, one_mnemonic, one_suffix}
 use Rattle.hm_textv_rows.specs.Mnemonics.{other_dot_mnemonic, pair_mnemonic, quad_mnemonic, reverse_mnemonic, scalar_mnemonic, scalar_suffix}
 use Rattle.hm_textv_rows.specs.Mnemonics.{signed, signed_mnemonic, size_number, sum_mnemonic, unsigned, vector_shift_mnemonic, wrapped_mnemonic}
 
@@ -173,7 +174,7 @@ tokens_of (V12 i) = long_tokens i
 tokens_of (V13 i) = one_tokens i
 tokens_of (V14 i) = two (reverse_mnemonic i.name ++ element_suffix i.z.value) (q i.d.value) (q i.m.value)
 tokens_of (V15 i) = constant_tokens i
-tokens_of (V16 i) = two (narrow_mnemonic i.name i.t.value ++ narrow_suffix i.name i.z.value) (q i.d.value) (q i.m.value)
+tokens_of (V16 i) = two (narrowing_mnemonic i.name i.t.value ++ narrowing_suffix i.name i.z.value) (q i.d.value) (q i.m.value)
 tokens_of (V17 i) = and_constant (two (codes "vshlc") (q i.d.value) (r i.m.value)) (zero_as_32 i.k.value)
 tokens_of (V18 i) = two (codes "vdup" ++ element_suffix (size_number i.size)) (q i.d.value) (r i.t.value)
 tokens_of (V19 i) = offsets_tokens i

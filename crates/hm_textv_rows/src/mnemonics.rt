@@ -3,7 +3,7 @@
 ghost use Rattle.std.specs.Prelude.{◌≡◌, ◌<◌};
 ghost use Rattle.hm_textv_rows.specs.Mnemonics.{access_mnemonic, add_mnemonic, bitwise_mnemonic, block_letters, carry_mnemonic, compare_condition};
 ghost use Rattle.hm_textv_rows.specs.Mnemonics.{complex_sum_mnemonic, constant_merge_mnemonic, constant_move_mnemonic, constant_shift_mnemonic};
-ghost use Rattle.hm_textv_rows.specs.Mnemonics.{doubling_mnemonic, extreme_mnemonic, high_mnemonic, narrow_mnemonic, offsets_mnemonic, one_mnemonic};
+ghost use Rattle.hm_textv_rows.specs.Mnemonics.{doubling_mnemonic, extreme_mnemonic, high_mnemonic, narrowing_mnemonic, offsets_mnemonic, one_mnemonic};
 ghost use Rattle.hm_textv_rows.specs.Mnemonics.{pair_mnemonic, quad_mnemonic, reverse_mnemonic, scalar_mnemonic, signed_mnemonic, vector_shift_mnemonic};
 ghost use Rattle.hm_textv_rows.specs.Mnemonics.{wrapped_mnemonic};
 
@@ -211,8 +211,8 @@ pub fn constant_merge_mnemonic(op: Bit) -> &'static str
 }
 
 /// The mnemonic of a row V16: with b for the lower part of each wide element, or t for the upper.
-pub fn narrow_mnemonic(name: NarrowingName, t: Bit) -> &'static str
-    ensures { result.now ≡ narrow_mnemonic name t.value }
+pub fn narrowing_mnemonic(name: NarrowingName, t: Bit) -> &'static str
+    ensures { result.now ≡ narrowing_mnemonic name t.value }
 {
     match (name, t.get() == 0) {
         (NarrowingName::Plain, true) => "vmovnb",

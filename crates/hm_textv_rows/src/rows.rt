@@ -12,12 +12,12 @@ use crate::memory::{text_v24, text_v25, text_v26, text_v27, text_v28};
 use crate::mnemonics::{
     add_mnemonic, bitwise_mnemonic, block_letters, carry_mnemonic, compare_condition,
     complex_sum_mnemonic, constant_merge_mnemonic, constant_move_mnemonic, constant_shift_mnemonic,
-    doubling_mnemonic, extreme_mnemonic, high_mnemonic, narrow_mnemonic, offsets_mnemonic,
+    doubling_mnemonic, extreme_mnemonic, high_mnemonic, narrowing_mnemonic, offsets_mnemonic,
     one_mnemonic, reverse_mnemonic, scalar_mnemonic, signed_mnemonic, vector_shift_mnemonic,
     wrapped_mnemonic,
 };
 use crate::suffixes::{
-    by_sign, compare_suffix, complex_sum_suffix, constant_shift_suffix, integer, narrow_suffix,
+    by_sign, compare_suffix, complex_sum_suffix, constant_shift_suffix, integer, narrowing_suffix,
     one_suffix, scalar_suffix, signed, size_number, unsigned,
 };
 use hm_isa::words::imm8;
@@ -164,8 +164,8 @@ fn text_v16(i: &V16) -> InstrText
     ensures { text_tokens result ≡ tokens_of (vector.V16 i.now) }
 {
     two(
-        narrow_mnemonic(i.name, i.t),
-        narrow_suffix(i.name, i.z),
+        narrowing_mnemonic(i.name, i.t),
+        narrowing_suffix(i.name, i.z),
         q(i.d),
         q(i.m),
     )

@@ -1,7 +1,7 @@
 //! What stands behind the point of a mnemonic: the kind of the elements and their size, where 0, 1, 2 and 3 are 8, 16, 32 and 64 bits.
 
 ghost use Rattle.std.specs.Prelude.{◌≡◌, ◌<◌};
-ghost use Rattle.hm_textv_rows.specs.Mnemonics.{access_suffix, by_sign, compare_suffix, constant_shift_suffix, integer, narrow_suffix, one_suffix};
+ghost use Rattle.hm_textv_rows.specs.Mnemonics.{access_suffix, by_sign, compare_suffix, constant_shift_suffix, integer, narrowing_suffix, one_suffix};
 ghost use Rattle.hm_textv_rows.specs.Mnemonics.{scalar_suffix};
 ghost use Rattle.hm_textv_rows.specs.Mnemonics.{signed, size_number, complex_sum_suffix, unsigned};
 
@@ -119,8 +119,8 @@ pub fn one_suffix(name: OneName, z: ElementSize) -> &'static str
 }
 
 /// Of a row V16: the size of the wide elements.
-pub fn narrow_suffix(name: NarrowingName, z: Bit) -> &'static str
-    ensures { result.now ≡ narrow_suffix name z.value }
+pub fn narrowing_suffix(name: NarrowingName, z: Bit) -> &'static str
+    ensures { result.now ≡ narrowing_suffix name z.value }
 {
     match name {
         NarrowingName::Plain => integer(z.get() + 1),
