@@ -34,7 +34,7 @@ use Rattle.hm_isa.specs.contracts.vectors.ScalarName as by_scalar_
 use Rattle.hm_isa.specs.contracts.vectors.ConstantShiftName as by_constant_
 use Rattle.hm_isa.specs.contracts.vectors.OneName as one_
 use Rattle.hm_isa.specs.contracts.vectors.ReverseName as reverse_
-use Rattle.hm_isa.specs.contracts.vectors.NarrowingName as narrow_
+use Rattle.hm_isa.specs.contracts.vectors.NarrowingName as narrowing
 use Rattle.hm_isa.specs.contracts.vectors.Element as element_
 use Rattle.hm_isa.specs.contracts.vectors.OffsetsName as direction_
 use Rattle.hm_isa.specs.contracts.vectors.ExtremeName as extreme_
@@ -79,7 +79,7 @@ use Rattle.hm_isa.specs.contracts.vectors.V22 as v22_
 use Rattle.hm_isa.specs.contracts.vectors.V23 as v23_
 use Rattle.hm_isa.specs.Rules.{has_sign, has_size, is_shifted_by, is_signed_by, shift_has_sign}
 use Rattle.hm_isa.specs.Code.{add_base, bitwise_base, signed_base, vector_shift_base, constant_shift_base, doubling_base, high_base, carry_base}
-use Rattle.hm_isa.specs.Code.{complex_sum_base, scalar_base, one_base, reverse_base, narrow_base, dup_base, offsets_base, dot_base, extreme_base}
+use Rattle.hm_isa.specs.Code.{complex_sum_base, scalar_base, one_base, reverse_base, narrowing_base, dup_base, offsets_base, dot_base, extreme_base}
 use Rattle.hm_isa.specs.Code.{code_v1, code_v2, code_v3, code_v4, code_v5, code_v6, code_v7, code_v8, code_v9, code_v10, code_v11, code_long_bytes}
 use Rattle.hm_isa.specs.Code.{code_long_halves, code_long_full, code_v12, code_one_element, code_invert, code_v13, code_v14, code_v15, code_v16, code_v17}
 use Rattle.hm_isa.specs.Code.{code_v18}
@@ -271,7 +271,7 @@ row_v15 = record {
   rules = λ v. no_rule;
 }
 
-abbrev pub row_v16 : Named v16_.the_type narrow_.enum code_v16 narrow_base
+abbrev pub row_v16 : Named v16_.the_type narrowing.enum code_v16 narrowing_base
 row_v16 = record {
   layout = (the_name tt, (at 18 1 2, (at 12 1 2, (at 13 3 8, (at 1 3 8, tt)))));
   is_code = λ r. omega arith;

@@ -15,7 +15,7 @@ ghost use Rattle.hm_isa.specs.declared.vectors.V14.{V14};
 ghost use Rattle.hm_isa.specs.declared.vectors.V15.{V15};
 ghost use Rattle.hm_isa.specs.declared.vectors.V16.{V16};
 ghost use Rattle.hm_isa.specs.Code.{code_long_bytes, code_long_halves, code_long_full, code_one_element, code_invert};
-ghost use Rattle.hm_isa.specs.Code.{one_base, reverse_base, narrow_base, code_v12, code_v13, code_v14, code_v15, code_v16, vector_code};
+ghost use Rattle.hm_isa.specs.Code.{one_base, reverse_base, narrowing_base, code_v12, code_v13, code_v14, code_v15, code_v16, vector_code};
 ghost use Rattle.hm_isa.specs.Rules.{is_reversed};
 
 use hm_code_fields::{bit, bits, q_register, size_at};
@@ -343,8 +343,8 @@ pub fn encode_v15(r: &V15) -> u32
 
 /// The operation of the row V16 whose code without its fields is this.
 fn narrowing_name(base: u32) -> Option<NarrowingName>
-    ensures found { IfSome result (λ x. narrow_base x ≡ base) }
-    ensures none { IfNone result ((x : NarrowingName) → narrow_base x ≡ base → ⊥) }
+    ensures found { IfSome result (λ x. narrowing_base x ≡ base) }
+    ensures none { IfNone result ((x : NarrowingName) → narrowing_base x ≡ base → ⊥) }
 {
     match base {
         0xfe31_0e81 => Some(NarrowingName::Plain),
@@ -357,7 +357,7 @@ fn narrowing_name(base: u32) -> Option<NarrowingName>
 
 /// The code of a name of the row V16 without its fields.
 pub fn base_of_narrowing(name: NarrowingName) -> u32
-    ensures value { result ≡ narrow_base name }
+    ensures value { result ≡ narrowing_base name }
 {
     match name {
         NarrowingName::Plain => 0xfe31_0e81,

@@ -119,7 +119,7 @@ use Rattle.hm_isa.specs.declared.vectors.ReverseName.TheVariants as reverse_
 use Rattle.hm_isa.specs.declared.vectors.V14.{V14}
 use Rattle.hm_isa.specs.declared.vectors.V15.{V15}
 use Rattle.hm_isa.specs.declared.vectors.NarrowingName.{NarrowingName}
-use Rattle.hm_isa.specs.declared.vectors.NarrowingName.TheVariants as narrow_
+use Rattle.hm_isa.specs.declared.vectors.NarrowingName.TheVariants as narrowing
 use Rattle.hm_isa.specs.declared.vectors.V16.{V16}
 use Rattle.hm_isa.specs.declared.vectors.V17.{V17}
 use Rattle.hm_isa.specs.declared.vectors.Element.{Element}
@@ -641,15 +641,15 @@ abbrev pub code_v15 : V15 → ℕ
 code_v15 r = 0xef800050 + r.i.value ↑ 28 + r.i3.value ↑ 16 + r.d.value ↑ 13 + r.cm.value ↑ 8 + r.op.value ↑ 5 + r.i4.value
 
 -- V16: the code of VMOVN, VQMOVUN, and VQMOVN of signed and of unsigned elements, all else 0 (DDI0553, "VMOVN", "VQMOVUN" and "VQMOVN")
-abbrev pub narrow_base : NarrowingName → ℕ
-narrow_base narrow_.Plain = 0xfe310e81
-narrow_base narrow_.ToUnsigned = 0xee310e81
-narrow_base narrow_.Signed = 0xee330e01
-narrow_base narrow_.Unsigned = 0xfe330e01
+abbrev pub narrowing_base : NarrowingName → ℕ
+narrowing_base narrowing.Plain = 0xfe310e81
+narrowing_base narrowing.ToUnsigned = 0xee310e81
+narrowing_base narrowing.Signed = 0xee330e01
+narrowing_base narrowing.Unsigned = 0xfe330e01
 
 -- V16: VMOVNB, VMOVNT, VQMOVUNB, VQMOVUNT, VQMOVNB and VQMOVNT (DDI0553, "VMOVN", "VQMOVUN" and "VQMOVN")
 abbrev pub code_v16 : V16 → ℕ
-code_v16 r = narrow_base r.name + r.z.value ↑ 18 + r.t.value ↑ 12 + r.d.value ↑ 13 + r.m.value ↑ 1
+code_v16 r = narrowing_base r.name + r.z.value ↑ 18 + r.t.value ↑ 12 + r.d.value ↑ 13 + r.m.value ↑ 1
 
 -- V17: VSHLC (DDI0553, "VSHLC")
 abbrev pub code_v17 : V17 → ℕ

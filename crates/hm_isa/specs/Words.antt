@@ -21,8 +21,8 @@ abbrev pub lsr_c : ℕ → ℕ → Shifted
 lsr_c x n = record { result = x / 2 ^ n; carry = bit_is_set x (n - 1) }
 
 -- SignExtend(x, 64), of which a shift by more than 32 gives what one by 32 gives
-abbrev pub extended : ℕ → ℕ
-extended x = if negative x then x + 0xffffffff00000000 else x
+abbrev pub sign_extended_64 : ℕ → ℕ
+sign_extended_64 x = if negative x then x + 0xffffffff00000000 else x
 
 -- a number of places to shift by, 32 where it is more
 abbrev pub at_most_32 : ℕ → ℕ
@@ -34,7 +34,7 @@ zero_as_32 n = if nat_eq n 0 then 32 else n
 
 -- ASR_C(x, n): a shift to the right that keeps the sign, and the last bit that is shifted out (DDI0553, "ASR_C")
 abbrev pub asr_c : ℕ → ℕ → Shifted
-asr_c x n = let m = at_most_32 n in record { result = extended x / 2 ^ m % 2 ^ 32; carry = bit_is_set (extended x) (m - 1) }
+asr_c x n = let m = at_most_32 n in record { result = sign_extended_64 x / 2 ^ m % 2 ^ 32; carry = bit_is_set (sign_extended_64 x) (m - 1) }
 
 -- ROR(x, m): a word rotated to the right by m places, m being less than 32 (DDI0553, "ROR")
 abbrev pub rotated : ℕ → ℕ → ℕ

@@ -1,8 +1,8 @@
 //! Words as instructions make them: shifts, signs, and constants of several fields.
 
 ghost use Rattle.std.specs.Prelude.{◌≡◌, ◌*◌, ◌^◌, ◌<◌, ◌≤◌};
-ghost use Rattle.hm_isa.specs.Words.{asr_c, expand_imm_c, extended, imm12, imm16, imm5, imm8, is_by_carry, lsl_c, lsr_c, repeats, ror_c, rotated};
-ghost use Rattle.hm_isa.specs.Words.{shift_c, shift_number, shift_type, sign_extended, zero_as_32};
+ghost use Rattle.hm_isa.specs.Words.{asr_c, expand_imm_c, imm12, imm16, imm5, imm8, is_by_carry, lsl_c, lsr_c, repeats, ror_c, rotated};
+ghost use Rattle.hm_isa.specs.Words.{shift_c, shift_number, shift_type, sign_extended, sign_extended_64, zero_as_32};
 
 use crate::fields::{Below, Bit, Byte};
 
@@ -96,8 +96,8 @@ fn lsr_c(x: u32, n: u32) -> Shifted
 }
 
 /// A word as the low half of a double word that has its sign.
-pub fn extended(x: u32) -> u64
-    ensures value { result ≡ extended x }
+pub fn sign_extended_64(x: u32) -> u64
+    ensures value { result ≡ sign_extended_64 x }
     ensures below { result < 2 ^ 64 }
 {
     if x >= SIGN {
@@ -113,7 +113,7 @@ fn asr_c(x: u32, n: u32) -> Shifted
     ensures value { result ≡ asr_c x n }
 {
     let m = if n < 32 { n } else { 32 };
-    let wide = extended(x);
+    let wide = sign_extended_64(x);
     Shifted {
         result: ((wide >> m) % 0x1_0000_0000) as u32,
         carry: (wide >> (m - 1)) % 2 == 1,

@@ -67,13 +67,13 @@ abbrev pub do_fit : (fs : List data_field.Field) → Layout fs → Bool
 do_fit [] l = true
 do_fit (f ∷ fs) l = nat_le (l.0).limit (2 ^ total_size (l.0).spread) && do_fit fs l.1
 
-below_width : (x limit m : ℕ) → nat_le limit m ≡ true → x < limit → x < m
-below_width x limit m e h = grind (arith, nat_tests)
+below_limit : (x limit m : ℕ) → nat_le limit m ≡ true → x < limit → x < m
+below_limit x limit m e h = grind (arith, nat_tests)
 
 pub numbers_fit : (fs : List data_field.Field) (l : Layout fs) (v : Values fs) → do_fit fs l ≡ true → Fits (places_of fs l) (numbers_of fs l v)
 numbers_fit [] l v e = tt
 numbers_fit (f ∷ fs) l v e =
-    fits_both (l.0).spread (places_of fs l.1) _ _ (pieces_fit (l.0).spread _ (below_width _ _ _ (both_left _ _ e) ((l.0).to v.0).in_range))
+    fits_both (l.0).spread (places_of fs l.1) _ _ (pieces_fit (l.0).spread _ (below_limit _ _ _ (both_left _ _ e) ((l.0).to v.0).in_range))
     (numbers_fit fs l.1 v.1 (both_right _ _ e))
 
 pub numbers_one : (fs : List data_field.Field) (l : Layout fs) (v w : Values fs) → do_fit fs l ≡ true → numbers_of fs l v ≡ numbers_of fs l w → v ≡ w
@@ -81,8 +81,8 @@ numbers_one [] l v w f e = refl
 numbers_one (g ∷ fs) l v w f e =
     let both = cut (l.0).spread ((l.0).to v.0).value ((l.0).to w.0).value (numbers_of fs l.1 v.1) (numbers_of fs l.1 w.1) e in
     let number : ((l.0).to v.0).value ≡ ((l.0).to w.0).value =
-    pieces_one (l.0).spread _ _ (below_width _ _ _ (both_left _ _ f) ((l.0).to v.0).in_range)
-    (below_width _ _ _ (both_left _ _ f) ((l.0).to w.0).in_range) both.0 in
+    pieces_one (l.0).spread _ _ (below_limit _ _ _ (both_left _ _ f) ((l.0).to v.0).in_range)
+    (below_limit _ _ _ (both_left _ _ f) ((l.0).to w.0).in_range) both.0 in
     let x : v.0 ≡ w.0 = (l.0).one v.0 w.0 (same_below (l.0).limit ((l.0).to v.0) ((l.0).to w.0) number) in
     let xs : v.1 ≡ w.1 = numbers_one fs l.1 v.1 w.1 (both_right _ _ f) both.1 in
     λ i. (x i, xs i)

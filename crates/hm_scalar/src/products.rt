@@ -5,7 +5,7 @@ ghost use Rattle.hm_thumb.specs.ArithRows.{accumulate_row, accumulated, long_res
 ghost use Rattle.hm_thumb.specs.ArithRows.{signed_quotient, t11};
 
 use hm_base::Place;
-use hm_isa::words::{SIGN, extended};
+use hm_isa::words::{SIGN, sign_extended_64};
 use hm_isa::{
     Accumulate, AccumulateName, LongProduct, LongProductName, Operation, OperationName, T11,
 };
@@ -78,7 +78,7 @@ fn accumulate(i: &Accumulate, regs: &mut Regs)
 fn signed_product(x: u32, y: u32) -> u64
     ensures value { result ≡ signed_product x y }
 {
-    extended(x).wrapping_mul(extended(y))
+    sign_extended_64(x).wrapping_mul(sign_extended_64(y))
 }
 
 /// A product of 64 bits, alone or added.

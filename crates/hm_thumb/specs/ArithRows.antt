@@ -25,7 +25,7 @@ use Rattle.hm_isa.specs.declared.arith.T11.{T11}
 use Rattle.hm_isa.specs.declared.arith.T11.TheVariants as t11_
 use Rattle.hm_isa.specs.declared.arith.T20.{T20}
 use Rattle.hm_regs.specs.declared.Regs.{Regs}
-use Rattle.hm_isa.specs.Words.{extended, negative, rotated, shift_c}
+use Rattle.hm_isa.specs.Words.{negative, rotated, shift_c, sign_extended_64}
 use Rattle.hm_thumb.specs.Arithmetic.{inverted}
 use Rattle.hm_thumb.specs.Blocks.{condition_holds}
 use Rattle.hm_thumb.specs.RegisterRows.{extended_by, put, reg, reg_or_zero, swapped, with_nzc}
@@ -99,7 +99,7 @@ accumulate_row i r =
 
 -- T11: the product of SMULL and SMLAL, of numbers with their signs, modulo 2 ^ 64 (DDI0553, "SMULL" and "SMLAL")
 abbrev pub signed_product : ℕ → ℕ → ℕ
-signed_product x y = extended x * extended y % 2 ^ 64
+signed_product x y = sign_extended_64 x * sign_extended_64 y % 2 ^ 64
 
 -- T11: the product of SMULL and UMULL of 64 bits, and added by SMLAL and UMLAL (DDI0553, "SMULL", "UMULL", "SMLAL" and "UMLAL")
 abbrev pub long_result : LongProductName → ℕ → ℕ → ℕ → ℕ
