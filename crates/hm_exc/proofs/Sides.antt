@@ -15,12 +15,12 @@ process_is r h = go (r.ipsr == 0) refl
     go false e = sym (h (eqb-false r.ipsr 0 e))
 
 -- EXC_RETURN by whether a thread was interrupted, the choice of its stack, and the context
-abbrev value_by : Bool → Bool → Bool → ℕ
-value_by t s f =
+abbrev return_by : Bool → Bool → Bool → ℕ
+return_by t s f =
     if t then (if s then (if f then 0xffffffac else 0xffffffbc) else (if f then 0xffffffa8 else 0xffffffb8))
     else (if f then 0xffffffa0 else 0xffffffb0)
 
-bit_2 : (t s f : Bool) → (value_by t s f / 2 ^ 2 % 2 == 1) ≡ (t && s)
+bit_2 : (t s f : Bool) → (return_by t s f / 2 ^ 2 % 2 == 1) ≡ (t && s)
 bit_2 true true true = refl
 bit_2 true true false = refl
 bit_2 true false true = refl

@@ -52,15 +52,15 @@ are_clear bs (p ∷ ps) = are_clear bs ps && is_clear p.position p.size (fills b
 none_more : (n : ℕ) → n ≡ n + 0
 none_more n = omega arith
 
-turned : (n x s : ℕ) → (n + s) + x ≡ n + (x + s)
-turned n x s = omega arith
+sum_swapped : (n x s : ℕ) → (n + s) + x ≡ n + (x + s)
+sum_swapped n x s = omega arith
 
 pub fills_lem : (bs : List Known) (ps : List Place) (n : ℕ) (xs : List ℕ) → are_clear bs ps ≡ true → Matches bs n → Fits ps xs
     → Matches (fills bs ps) (n + placed ps xs)
 fills_lem bs [] n xs e m f = subst (λ k. Matches bs k) (none_more n) m
 fills_lem bs (p ∷ ps) n [] e m f = absurd f
 fills_lem bs (p ∷ ps) n (x ∷ xs) e m f =
-    subst (λ k. Matches (fills bs (p ∷ ps)) k) (turned n (x * 2 ^ p.position) (placed ps xs))
+    subst (λ k. Matches (fills bs (p ∷ ps)) k) (sum_swapped n (x * 2 ^ p.position) (placed ps xs))
     (fill_lem p.position p.size (fills bs ps) (n + placed ps xs) x (both_right _ _ e) (fills_lem bs ps n xs (both_left _ _ e) m f.1) f.0)
 
 -- the numbers at the places of a code
@@ -85,7 +85,7 @@ digits_lem bs [] n [] e c m f = refl
 digits_lem bs [] n (x ∷ xs) e c m f = absurd f
 digits_lem bs (p ∷ ps) n [] e c m f = absurd f
 digits_lem bs (p ∷ ps) n (x ∷ xs) e c m f =
-    let same = turned n (x * 2 ^ p.position) (placed ps xs) in
+    let same = sum_swapped n (x * 2 ^ p.position) (placed ps xs) in
     let lower = fills_lem bs ps n xs (both_left _ _ c) m f.1 in
     let first =
     ap (λ k. k / 2 ^ p.position % 2 ^ p.size) (sym same)

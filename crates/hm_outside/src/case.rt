@@ -210,7 +210,7 @@ impl Case {
     /// Takes registers that are not compared.
     fn leave_open(&mut self, words: &mut SplitWhitespace<'_>) -> Result<()> {
         for name in words {
-            self.open |= Register::of(name).context("no register")?.bit();
+            self.open |= Register::of(name).context("no register")?.flag();
         }
         Ok(())
     }

@@ -21,7 +21,7 @@ fn compare_registers(
     for register in registers {
         let here = register.told(regs);
         let told = register.told(&case.after);
-        if here.value != told.value && case.open & register.bit() == 0 {
+        if here.value != told.value && case.open & register.flag() == 0 {
             all.push(format!(in alloc; "{here}, told {told}")?)?;
         }
     }

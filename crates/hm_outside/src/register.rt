@@ -155,7 +155,7 @@ impl Register {
     }
 
     /// A number with one bit, which no other register has.
-    pub fn bit(self) -> u32 {
+    pub fn flag(self) -> u32 {
         match self {
             Register::Core(n) => 1 << n.get(),
             Register::Vector(n) => 1 << (15 + n.get()),

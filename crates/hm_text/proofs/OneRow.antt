@@ -139,22 +139,22 @@ both_other : (r s : WideRow) (ts : List Tok) → wide_laws.Other r ts → wide_l
 both_other r s ts o p =
     ap wide_code o.is ∙ wide_unique.bare_same o.barrier p.barrier o.option p.option (sym o.mnemonic ∙ p.mnemonic) ∙ ap wide_code (sym p.is)
 
-one_code : (ts : List Tok) (pc a : ℕ) (r s : WideRow) (t u : Tok) → pc < 2 ^ 32 → IsLabel t → IsLabel u → Reaches (wide_targets.target r pc) a
+one_wide_code : (ts : List Tok) (pc a : ℕ) (r s : WideRow) (t u : Tok) → pc < 2 ^ 32 → IsLabel t → IsLabel u → Reaches (wide_targets.target r pc) a
     → Reaches (wide_targets.target s pc) a → AreOfRow (by.Wide r) t ts → AreOfRow (by.Wide s) u ts → wide_code r ≡ wide_code s
-one_code ts pc a r s t u hp lt lu p q (inl is) (inl also) =
+one_wide_code ts pc a r s t u hp lt lu p q (inl is) (inl also) =
     let same : wide_rows.tokens_of r t ≡ wide_rows.tokens_of s u = is ∙ sym also in
     let mnemonics = sym ((wide_laws.row_law r).mnemonic t) ∙ ap mnemonic_in same ∙ (wide_laws.row_law s).mnemonic u in
     let operands = sym ((wide_laws.row_law r).gives t lt) ∙ ap wide_operands.operands_in same ∙ (wide_laws.row_law s).gives u lu in
     wide_unique.same_code r s t u pc a mnemonics operands hp p q
-one_code ts pc a r s t u hp lt lu p q (inl is) (inr also) = absurd (printed_and_other r s t ts lt is also)
-one_code ts pc a r s t u hp lt lu p q (inr is) (inl also) = absurd (printed_and_other s r u ts lu also is)
-one_code ts pc a r s t u hp lt lu p q (inr is) (inr also) = both_other r s ts (wide_laws.other_law r ts is) (wide_laws.other_law s ts also)
+one_wide_code ts pc a r s t u hp lt lu p q (inl is) (inr also) = absurd (printed_and_other r s t ts lt is also)
+one_wide_code ts pc a r s t u hp lt lu p q (inr is) (inl also) = absurd (printed_and_other s r u ts lu also is)
+one_wide_code ts pc a r s t u hp lt lu p q (inr is) (inr also) = both_other r s ts (wide_laws.other_law r ts is) (wide_laws.other_law s ts also)
 
 one_wide : (ts : List Tok) (pc a : ℕ) (i j : Instr) (r s : WideRow) → by_width i ≡ by.Wide r → by_width j ≡ by.Wide s → pc < 2 ^ 32 → IsRowOf ts pc a i
     → IsRowOf ts pc a j → i ≡ j
 one_wide ts pc a i j r s e f hp is also =
     let code =
-    one_code ts pc a r s is.label also.label hp is.has.label also.has.label (row_reaches ts pc a i (by.Wide r) e is)
+    one_wide_code ts pc a r s is.label also.label hp is.has.label also.has.label (row_reaches ts pc a i (by.Wide r) e is)
     (row_reaches ts pc a j (by.Wide s) f also) (row_tokens ts pc a i (by.Wide r) e is) (row_tokens ts pc a j (by.Wide s) f also) in
     unique_code i j (word_halves i (wide_code s) (has_word i r (wide_code s) e code) ∙ sym (word_halves j (wide_code s) (has_word j s (wide_code s) f refl)))
 

@@ -26,8 +26,8 @@ abbrev pub special_in : List ℕ → Option ℕ
 special_in w = option_map special_number (named read_name special_names w)
 
 -- zero, and what VMRS and VMSR name
-abbrev pub other_value : List ℕ → ℕ
-other_value w =
+abbrev pub other_wide_word_value : List ℕ → ℕ
+other_wide_word_value w =
     if bytes_eq w (codes "zr") then 15
     else if bytes_eq w (codes "fpscr") then 1
     else if bytes_eq w (codes "vpr") then 12
@@ -39,7 +39,8 @@ other_value w =
 unfoldable pub wide_word_value : List ℕ → ℕ
 wide_word_value w =
     unwrap_or (register_in w)
-    (unwrap_or (vector_in w) (unwrap_or (condition_in w) (unwrap_or (double_in w) (unwrap_or (shift_in w) (unwrap_or (special_in w) (other_value w))))))
+    (unwrap_or (vector_in w)
+    (unwrap_or (condition_in w) (unwrap_or (double_in w) (unwrap_or (shift_in w) (unwrap_or (special_in w) (other_wide_word_value w))))))
 
 -- the number that a token stands for
 abbrev pub wide_value : Tok → ℕ

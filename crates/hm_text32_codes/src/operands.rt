@@ -1,7 +1,7 @@
 //! What a text gives numbers for, read without a refusal, since the row that is found is asked for its text.
 
 ghost use Rattle.std.specs.Prelude.{◌≡◌, map};
-ghost use Rattle.hm_text32_codes.specs.Operands.{other_value, read_wide_operands, second_bang, shift_in, special_in, wide_value, wide_word_value};
+ghost use Rattle.hm_text32_codes.specs.Operands.{other_wide_word_value, read_wide_operands, second_bang, shift_in, special_in, wide_value, wide_word_value};
 ghost use Rattle.hm_tokens.specs.Tokens.{tok};
 
 use hm_text_rows::{
@@ -67,8 +67,8 @@ fn read_special(name: &[u8]) -> Option<u32>
 }
 
 /// The number of zero, and of what is named beside a core register in rows T21.
-fn other_value(name: &[u8]) -> u32
-    ensures { result ≡ other_value name.now }
+fn other_wide_word_value(name: &[u8]) -> u32
+    ensures { result ≡ other_wide_word_value name.now }
 {
     let others = &[
         (15, "zr"),
@@ -103,7 +103,7 @@ fn wide_word_value(name: &[u8]) -> u32
     if let Some(n) = read_special(name) {
         return n;
     }
-    other_value(name)
+    other_wide_word_value(name)
 }
 
 /// The number that a token stands for.

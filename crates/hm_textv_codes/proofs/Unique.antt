@@ -234,5 +234,5 @@ one_asked v u s o (inl a) (inr b) = absurd (not_other v u s o a b)
 one_asked v u s o (inr a) (inl b) = absurd (not_other u v s o b a)
 one_asked v u s o (inr a) (inr b) = same_other v u s o a b
 
-pub one_code : (ts : List Tok) (v u : Vector) → HasTokens v ts → HasTokens u ts → vector_code v ≡ vector_code u
-one_code ts v u has more = one_asked v u _ _ (text_law v ts has).asks (text_law u ts more).asks
+pub one_vector_code : (ts : List Tok) (v u : Vector) → HasTokens v ts → HasTokens u ts → vector_code v ≡ vector_code u
+one_vector_code ts v u has more = one_asked v u _ _ (text_law v ts has).asks (text_law u ts more).asks

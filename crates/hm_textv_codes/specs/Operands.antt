@@ -15,8 +15,8 @@ abbrev pub compare_condition_in : List ℕ → Option ℕ
 compare_condition_in w = named compare_condition (0 ∷ 1 ∷ 2 ∷ 3 ∷ 4 ∷ 5 ∷ 6 ∷ 7 ∷ []) w
 
 -- zero, a shift that brings in ones, and an offset that is scaled
-abbrev pub other_value : List ℕ → ℕ
-other_value w =
+abbrev pub other_vector_word_value : List ℕ → ℕ
+other_vector_word_value w =
     if bytes_eq w (codes "zr") then 15
     else if bytes_eq w (codes "msl") then 1
     else if bytes_eq w (codes "uxtw") then 1
@@ -24,7 +24,7 @@ other_value w =
 
 -- the number that a word stands for: of a vector, else of a core register, else of a condition, else of another word
 unfoldable pub vector_word_value : List ℕ → ℕ
-vector_word_value w = unwrap_or (vector_in w) (unwrap_or (register_in w) (unwrap_or (compare_condition_in w) (other_value w)))
+vector_word_value w = unwrap_or (vector_in w) (unwrap_or (register_in w) (unwrap_or (compare_condition_in w) (other_vector_word_value w)))
 
 -- the number that a token stands for
 abbrev pub vector_value : Tok → ℕ

@@ -1,7 +1,8 @@
 //! What a text gives numbers for, read without a refusal, since the row that is found is asked for its text.
 
 ghost use Rattle.std.specs.Prelude.{◌≡◌, map};
-ghost use Rattle.hm_textv_codes.specs.Operands.{compare_condition_in, kind_of, other_value, read_vector_operands, sign_of, vector_value, vector_word_value};
+ghost use Rattle.hm_textv_codes.specs.Operands.{compare_condition_in, kind_of, other_vector_word_value, read_vector_operands, sign_of};
+ghost use Rattle.hm_textv_codes.specs.Operands.{vector_value, vector_word_value};
 ghost use Rattle.hm_tokens.specs.Tokens.{tok};
 
 use hm_text_rows::{
@@ -64,8 +65,8 @@ fn read_compare_condition(name: &[u8]) -> Option<u32>
 }
 
 /// The number of zero, of a shift that brings in ones, and of an offset that is scaled.
-fn other_value(name: &[u8]) -> u32
-    ensures { result ≡ other_value name.now }
+fn other_vector_word_value(name: &[u8]) -> u32
+    ensures { result ≡ other_vector_word_value name.now }
 {
     match name {
         b"zr" => 15,
@@ -89,7 +90,7 @@ fn vector_word_value(name: &[u8]) -> u32
     if let Some(n) = read_compare_condition(name) {
         return n;
     }
-    other_value(name)
+    other_vector_word_value(name)
 }
 
 /// The number that a token stands for.
