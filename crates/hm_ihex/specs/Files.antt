@@ -3,6 +3,7 @@ use Rattle.std.specs.Prelude.{◌≡◌, ℕ, ◌+◌, ◌-◌, get_or, length, 
 use Rattle.hm_base.specs.Image.{Segment}
 use Rattle.hm_base.specs.declared.errors.ImageErr.{ImageErr}
 use Rattle.hm_base.specs.declared.errors.ImageErr.TheVariants as refusals
+use Rattle.hm_text_base.specs.Marks.{carriage_return}
 use Rattle.hm_text_base.specs.Reading.{◌>>=◌}
 use Rattle.hm_text_base.specs.Spans.{Lines, lines_of}
 use Rattle.hm_ihex.specs.Cells.{Cells, first_cells, image_of, with_data}
@@ -10,7 +11,7 @@ use Rattle.hm_ihex.specs.Records.{Record, data_at, end, new_base, start, line_in
 
 -- a line that is ended, without the CR that may stand before its LF
 abbrev pub without_return : List ℕ → List ℕ
-without_return line = if nat_eq (get_or line (length line - 1) 0) 13 then take (length line - 1) line else line
+without_return line = if nat_eq (get_or line (length line - 1) 0) carriage_return then take (length line - 1) line else line
 
 -- the lines: those that are ended, and the last, which may have no end
 abbrev pub all_lines : Lines → List (List ℕ)

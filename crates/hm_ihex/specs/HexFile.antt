@@ -2,13 +2,14 @@
 use Rattle.std.specs.Prelude.{◌≡◌, ◌⊎◌, ◌↔◌, ℕ, ◌+◌, ◌-◌, ◌*◌, ◌/◌, ◌%◌, ◌<◌, ◌≤◌, true, All, List, [], ◌∷◌, ◌++◌, length, slice_index}
 use Rattle.std.specs.List.{AllByRecursion}
 use Rattle.hm_base.specs.Image.{IsApart, IsImage, IsPlaced, Segment, covers, segment}
+use Rattle.hm_text_base.specs.Marks.{carriage_return, line_end}
 use Rattle.hm_ihex.specs.Records.{Record, data_at, end, new_base, pair_of, start, sum_of, colon}
 
 -- ---- lines
 
 -- a line ends with LF or with CR LF
 abbrev pub IsLineEnd : List ℕ → Type 0
-IsLineEnd mark = (mark ≡ 10 ∷ []) ⊎ (mark ≡ 13 ∷ 10 ∷ [])
+IsLineEnd mark = (mark ≡ line_end ∷ []) ⊎ (mark ≡ carriage_return ∷ line_end ∷ [])
 
 -- a text of lines, each with its end; the last may have none
 abbrev pub AreLines : List (List ℕ) → List ℕ → Type 0

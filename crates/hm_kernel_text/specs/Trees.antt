@@ -1,5 +1,6 @@
 -- Expressions as they are written.
 use Rattle.std.specs.Prelude.{ℕ, ◌+◌, List, [], ◌∷◌, ◌++◌, codes, max}
+use Rattle.hm_text_base.specs.Marks.{space}
 use Rattle.hm_kernel_lang.specs.declared.text.Op.{Op}
 use Rattle.hm_kernel_lang.specs.declared.text.Op.TheVariants as op
 
@@ -30,7 +31,7 @@ close_parenthesis = 41
 -- a word, or (OP E E)
 abbrev pub tree_text : Tree → List ℕ
 tree_text (word w) = w
-tree_text (apply o l r) = open_parenthesis ∷ (op_text o ++ 32 ∷ (tree_text l ++ 32 ∷ (tree_text r ++ close_parenthesis ∷ [])))
+tree_text (apply o l r) = open_parenthesis ∷ (op_text o ++ space ∷ (tree_text l ++ space ∷ (tree_text r ++ close_parenthesis ∷ [])))
 
 -- how many names and numbers it has
 abbrev pub leaves : Tree → ℕ

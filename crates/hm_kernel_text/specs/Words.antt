@@ -3,18 +3,19 @@ use Rattle.std.specs.Prelude.{ℕ, Bool, not, List, [], ◌∷◌, length, slice
 use Rattle.std.specs.Prelude.{nat_lt, ◌&&◌, ◌||◌, if◌then◌else◌, bytes_eq}
 use Rattle.std.specs.Char.{is_ascii_alphanumeric, is_ascii_digit, is_ascii_lowercase}
 use Rattle.std.specs.List.{list_all, slice_split}
+use Rattle.hm_text_base.specs.Marks.{space}
 use Rattle.hm_text_base.specs.Numbers.{word_in}
 use Rattle.hm_kernel_lang.specs.declared.text.Op.{Op}
 use Rattle.hm_kernel_lang.specs.declared.text.Op.TheVariants as op
 
 -- the words of a text
 abbrev pub words_of : List ℕ → List (List ℕ)
-words_of text = slice_split (λ b. b == 32) text
+words_of text = slice_split (λ b. b == space) text
 
 -- the words behind a place: none at the end, else those behind the space that stands there
 abbrev pub words_behind : List ℕ → List (List ℕ)
 words_behind [] = []
-words_behind (space ∷ text) = words_of text
+words_behind (b ∷ text) = words_of text
 
 -- the operation that a word is
 unfoldable pub op_in : List ℕ → Option Op

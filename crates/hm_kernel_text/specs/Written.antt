@@ -1,6 +1,7 @@
 -- The text of a kernel, and what it has to be.
 use Rattle.std.specs.Prelude.{◌≡◌, ◌≢◌, ◌⊎◌, ℕ, ◌+◌, ◌*◌, ◌<◌, ◌≤◌, true, List, [], ◌∷◌, ◌++◌, length, map, codes, decimal}
 use Rattle.std.specs.List.{AllByRecursion, flat_map, join_with_byte}
+use Rattle.hm_text_base.specs.Marks.{space}
 use Rattle.hm_text_base.specs.Texts.{hex8}
 use Rattle.hm_text_base.specs.Spans.{line}
 use Rattle.hm_kernel_lang.specs.declared.text.ElementType.{ElementType}
@@ -51,11 +52,11 @@ length_text n = codes "length " ++ decimal n
 
 -- one space separates words
 abbrev pub array_text : WrittenArray → List ℕ
-array_text a = join_with_byte 32 (codes "array" ∷ a.name ∷ hex8 a.addr ∷ map decimal a.values)
+array_text a = join_with_byte space (codes "array" ∷ a.name ∷ hex8 a.addr ∷ map decimal a.values)
 
 -- a name, an equals sign and an expression
 abbrev pub set_text : WrittenSet → List ℕ
-set_text s = join_with_byte 32 (codes "set" ∷ s.name ∷ codes "=" ∷ tree_text s.expr ∷ [])
+set_text s = join_with_byte space (codes "set" ∷ s.name ∷ codes "=" ∷ tree_text s.expr ∷ [])
 
 -- all lines in order
 abbrev pub kernel_lines : Written → List (List ℕ)

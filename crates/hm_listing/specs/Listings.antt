@@ -5,6 +5,7 @@ use Rattle.hm_codes.specs.Listing.{half_at, Stands}
 use Rattle.hm_isa.specs.Code.{halfwords, width_of}
 use Rattle.hm_isa.specs.declared.Instr.{Instr}
 use Rattle.hm_text.specs.Tables.{printed_text}
+use Rattle.hm_text_base.specs.Marks.{line_end, space}
 use Rattle.hm_text_base.specs.Texts.{hex2, hex8}
 
 -- a line shows an instruction, or a halfword at which none is shown
@@ -34,7 +35,7 @@ entry_text a (half h) = codes ".half 0x" ++ hex4 h
 -- A LINE: an address, halfwords and a text, with spaces between them
 -- one line with its end; the address has eight digits and each halfword four
 abbrev pub listing_line : ℕ → List ℕ → List ℕ → List ℕ
-listing_line a halves text = hex8 a ++ 32 ∷ (join_with_byte 32 (map hex4 halves) ++ 32 ∷ (text ++ 10 ∷ []))
+listing_line a halves text = hex8 a ++ space ∷ (join_with_byte space (map hex4 halves) ++ space ∷ (text ++ line_end ∷ []))
 
 -- the line that shows an entry at a
 abbrev pub entry_line : ℕ → Entry → List ℕ

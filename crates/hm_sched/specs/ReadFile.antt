@@ -4,6 +4,7 @@ use Rattle.std.specs.Prelude.{◌==◌, nat_eq, nat_lt, ◌||◌, if◌then◌el
 use Rattle.std.specs.List.{starts_with}
 use Rattle.hm_base.specs.Image.{sram_start, sram_size}
 use Rattle.hm_base.specs.Results.{map_err}
+use Rattle.hm_text_base.specs.Marks.{space}
 use Rattle.hm_text_base.specs.Reading.{◌>>=◌}
 use Rattle.hm_text_base.specs.Spans.{span, Lines, lines_of}
 use Rattle.hm_text_base.specs.Numbers.{hex8_in}
@@ -40,7 +41,7 @@ addresses_in low high = option_and_then (λ lo. option_and_then (λ hi. bounded_
 -- the ends of the region
 unfoldable pub region_in : List ℕ → Option (ℕ × ℕ)
 region_in text = if starts_with nat_eq text (codes "region ")
-    then (if length (span 32 (drop 7 text)).1 == 0 then None else addresses_in (span 32 (drop 7 text)).0 (drop 1 (span 32 (drop 7 text)).1)) else None
+    then (if length (span space (drop 7 text)).1 == 0 then None else addresses_in (span space (drop 7 text)).0 (drop 1 (span space (drop 7 text)).1)) else None
 
 -- the address, where it is that of a floor
 abbrev pub bounded_floor : ℕ → Option ℕ

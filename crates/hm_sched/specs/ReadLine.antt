@@ -2,6 +2,7 @@
 use Rattle.std.specs.Prelude.{ℕ, Bool, not, ◌+◌, ◌^◌, List, [], ◌∷◌, length, drop, codes, Option, Some, None, ok_or, option_and_then, Result, Ok, Err, ◌==◌}
 use Rattle.std.specs.Prelude.{nat_eq, nat_lt, nat_le, ◌||◌, if◌then◌else◌, bytes_eq}
 use Rattle.std.specs.List.{list_all, slice_split, starts_with}
+use Rattle.hm_text_base.specs.Marks.{space}
 use Rattle.hm_text_base.specs.Reading.{◌>>=◌}
 use Rattle.hm_text_base.specs.Spans.{span}
 use Rattle.hm_text_base.specs.Numbers.{number_in}
@@ -51,12 +52,12 @@ numbers_in most least bits (word ∷ words) =
 -- the bits of the interrupts, which are none where the text is empty
 unfoldable pub irq_in : ℕ → List ℕ → Option ℕ
 irq_in most text = if length text == 0 then Some 0
-    else if starts_with nat_eq text (codes " irq ") then numbers_in most 0 0 (slice_split (λ b. b == 32) (drop 5 text)) else None
+    else if starts_with nat_eq text (codes " irq ") then numbers_in most 0 0 (slice_split (λ b. b == space) (drop 5 text)) else None
 
 -- the count, the steps up to the first space, and the interrupts from there on
 unfoldable pub ticks_in : ℕ → List ℕ → Result TickLine LineKind
 ticks_in most text = do
   c ← count_in text
-  s ← ok_or (steps_in (span 32 c.1).0) Steps
-  i ← ok_or (irq_in most (span 32 c.1).1) Irq
+  s ← ok_or (steps_in (span space c.1).0) Steps
+  i ← ok_or (irq_in most (span space c.1).1) Irq
   Ok (record { count = c.0; letters = s; irq = words_of 8 i })

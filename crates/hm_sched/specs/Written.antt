@@ -2,6 +2,7 @@
 use Rattle.std.specs.Prelude.{◌≡◌, ℕ, Bool, true, false, ◌+◌, ◌^◌, ◌<◌, ◌≤◌, List, [], ◌∷◌, ◌++◌, length, map, codes, decimal, Option, Some, None, unwrap_or}
 use Rattle.std.specs.Prelude.{IfSome, ◌==◌, if◌then◌else◌}
 use Rattle.std.specs.List.{All, AllByRecursion, join_with_byte, flat_map}
+use Rattle.hm_text_base.specs.Marks.{space}
 use Rattle.hm_text_base.specs.Texts.{hex8}
 use Rattle.hm_text_base.specs.Spans.{line}
 use Rattle.hm_sched.specs.Words.{words_of}
@@ -28,7 +29,7 @@ steps_text (c ∷ cs) = c ∷ cs
 -- the numbers of interrupts, where there are some
 abbrev pub irq_text : List ℕ → List ℕ
 irq_text [] = []
-irq_text (n ∷ ns) = codes " irq " ++ join_with_byte 32 (map decimal (n ∷ ns))
+irq_text (n ∷ ns) = codes " irq " ++ join_with_byte space (map decimal (n ∷ ns))
 
 -- the line: count, steps and interrupts
 abbrev pub ticks_text : Written → List ℕ
@@ -68,7 +69,7 @@ entries_text false = codes "entries no"
 
 -- the third line has the two ends of the region
 abbrev pub region_text : ℕ → ℕ → List ℕ
-region_text lo hi = codes "region " ++ (hex8 lo ++ 32 ∷ hex8 hi)
+region_text lo hi = codes "region " ++ (hex8 lo ++ space ∷ hex8 hi)
 
 -- the fourth line has the floor of the main stack
 abbrev pub floor_text : ℕ → List ℕ

@@ -1,6 +1,7 @@
 -- TEXTS AND NAMES OF KINDS of outcomes, and which of them halt.
 use Rattle.std.specs.Prelude.{Bool, false, true, ℕ, List, [], ◌++◌, codes, if◌then◌else◌, map, nat_eq}
 use Rattle.std.specs.Fmt.{decimal}
+use Rattle.hm_text_base.specs.Marks.{minus_sign, space}
 use Rattle.hm_run.specs.Report.{kind_text as fault_text, reason_text, slot_text, who_text}
 use Rattle.hm_shake_runs.specs.declared.kinds.Kind.{Kind}
 use Rattle.hm_shake_runs.specs.declared.kinds.Kind.TheVariants as kind
@@ -22,7 +23,7 @@ kind_text kind.Ticks out = out ++ codes "ticks"
 
 -- a minus in place of a space
 abbrev pub joined : ℕ → ℕ
-joined c = if nat_eq c 32 then 45 else c
+joined c = if nat_eq c space then minus_sign else c
 
 -- THE NAME OF A KIND: its text, with a minus between its words
 abbrev pub kind_name : Kind → List ℕ

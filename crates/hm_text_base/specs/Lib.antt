@@ -1,4 +1,5 @@
 pub mod Texts
 pub mod Reading
+pub mod Marks
 pub mod Spans
 pub mod Numbers

@@ -1,8 +1,9 @@
 -- The tokens of an instruction's text.
 use Rattle.std.specs.Prelude.{◌≡◌, ℕ, Bool, true, false, List, [], ◌∷◌, ◌++◌, codes, length, slice_index, Some, ◌==◌, ◌&&◌, ◌||◌, if◌then◌else◌}
+use Rattle.hm_text_base.specs.Marks.{space}
 use Rattle.hm_text_base.specs.Texts.{hex8}
 use Rattle.hm_tokens.specs.declared.marks.Mark.TheVariants as marks
-use Rattle.hm_tokens.specs.Tokens.{Tok, word, number, mark, is_the_mark, skip, space, spell, token_at}
+use Rattle.hm_tokens.specs.Tokens.{Tok, word, number, mark, is_the_mark, skip, spell, token_at}
 
 -- READING
 -- the tokens of a text, each the longest there; spaces may stand between them

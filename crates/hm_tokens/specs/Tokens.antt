@@ -1,6 +1,7 @@
 -- Tokens of assembly text, and the longest at the front of a text.
 use Rattle.std.specs.Prelude.{ℕ, Bool, false, ◌+◌, ◌-◌, ◌*◌, min, List, [], ◌∷◌, length, slice_index, drop, decimal, Option, Some, None, ◌==◌, nat_le, nat_lt}
 use Rattle.std.specs.Prelude.{◌&&◌, ◌||◌, if◌then◌else◌}
+use Rattle.hm_text_base.specs.Marks.{space}
 use Rattle.hm_tokens.specs.declared.marks.Mark.{Mark}
 use Rattle.hm_tokens.specs.declared.marks.Mark.TheVariants as marks
 use Rattle.hm_tokens.specs.Marks.{is_mark, mark_byte}
@@ -68,10 +69,6 @@ tok (tokens.Number n) = number n
 tok (tokens.Mark m) = mark_token m
 
 -- BYTES
--- the space
-abbrev pub space : ℕ
-space = 32
-
 -- the point, with which the suffix of a first word begins
 abbrev pub point : ℕ
 point = 46
