@@ -10,7 +10,7 @@ use Rattle.std.proofs.lemmas.List.{take_all}
 use Rattle.std.proofs.lemmas.Slice.Eq.{bytes_eq-Decides, starts_is}
 use Rattle.hm_text_base.proofs.NumberLaws.{hex8_again, hex8_found, hex8_lacks, number_again, number_found}
 use Rattle.hm_text_base.proofs.SpanLaws.{BeginsWith, span_at, span_first, span_parts}
-use Rattle.hm_text_base.proofs.Steps.{some_is}
+use Rattle.hm_text_base.proofs.Steps.{map_some, some_is}
 use Rattle.hm_text_base.specs.Numbers.{hex8_in, number_in}
 use Rattle.hm_text_base.specs.Spans.{span}
 use Rattle.hm_text_base.specs.Texts.{hex8}
@@ -142,10 +142,6 @@ pub until_read : (rest : List ℕ) → IsRead (codes "until " ++ rest) (option_m
 until_read rest = is_read (codes "until " ++ rest)
 
 -- whatever reads an address and how many serves
-map_some : (o : Option (ℕ × ℕ)) (f : ℕ × ℕ → Command) (c : Command) → option_map f o ≡ Some c → (x : ℕ × ℕ) × (o ≡ Some x) × (f x ≡ c)
-map_some None f c is = absurd cc
-map_some (Some x) f c is = (x, refl, some_is (f x) c is)
-
 mapped : (line rest : List ℕ) (o : Option (ℕ × ℕ)) (f : ℕ × ℕ → Command) → ((x : ℕ × ℕ) → rest ≡ range_text x.0 x.1 → line ≡ command_text (f x))
     → IfSome o (λ x. rest ≡ range_text x.0 x.1)
     → IfSome (option_map f o) (λ c. line ≡ command_text c)
@@ -158,7 +154,7 @@ pub range_read : (line rest : List ℕ) (o : Option (ℕ × ℕ)) (f : ℕ × �
 range_read line rest o f writes small is reads finds = record {
   reads = mapped line rest o f writes reads;
   finds = λ c says.
-      let x = map_some (range_in rest) f c (is.finds c says) in
+      let x = map_some f (range_in rest) c (is.finds c says) in
       let bounds = small x.0 (subst Fits (sym x.2) says.fits) in
       ap (option_map f) (finds x.0.0 x.0.1 bounds.0 bounds.1 (range_reads rest x.0 x.1)) ∙ ap (λ (d : Command). Some d) x.2;
 }

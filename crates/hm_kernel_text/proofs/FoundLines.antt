@@ -13,7 +13,7 @@ use Rattle.hm_base.specs.Image.{sram_start, sram_size}
 use Rattle.hm_text_base.specs.Texts.{hex8}
 use Rattle.hm_text_base.specs.Numbers.{hex8_in}
 use Rattle.hm_text_base.proofs.NumberLaws.{hex8_found}
-use Rattle.hm_text_base.proofs.Steps.{and_then_some, test_some, some_is, guard_ok}
+use Rattle.hm_text_base.proofs.Steps.{and_then_some, test_some, some_is, guard_ok, map_some}
 use Rattle.hm_kernel_lang.specs.declared.text.ElementType.{ElementType}
 use Rattle.hm_kernel_lang.specs.Language.{bytes, modulus}
 use Rattle.hm_kernel_lang.specs.Correct.{IsPlaced}
@@ -135,10 +135,6 @@ more_values : (limit : ℕ) (w : List ℕ) (ws : List (List ℕ)) (n : ℕ) (vs 
     → n ∷ vs ≡ values → AreValues limit (w ∷ ws) values
 more_values limit w ws n vs values one more is =
     subst (AreValues limit (w ∷ ws)) is (record { texts = rw (one.0, more.texts) refl; small = (one.1, more.small) })
-
-map_some : {A B : Type 0} (f : A → B) (o : Option A) (y : B) → option_map f o ≡ Some y → (x : A) × (o ≡ Some x) × (f x ≡ y)
-map_some f None y e = absurd cc
-map_some f (Some x) y e = (x, refl, some_is (f x) y e)
 
 pub values_found : (limit : ℕ) (words : List (List ℕ)) (values : List ℕ) → values_in limit words ≡ Some values → AreValues limit words values
 unfolding values_in

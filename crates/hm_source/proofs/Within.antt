@@ -3,7 +3,7 @@ use Rattle.std.proofs.Common.{◌≡◌, ◌≤◌, ℕ, ◌+◌, List, Option, 
 use Rattle.std.specs.Prelude.{option_map}
 use Rattle.hm_text_base.specs.Spans.{span}
 use Rattle.hm_text_base.proofs.SpanLaws.{span_parts}
-use Rattle.hm_text_base.proofs.Steps.{and_then_some, some_is, test_some}
+use Rattle.hm_text_base.proofs.Steps.{and_then_some, map_some, some_is, test_some}
 use Rattle.hm_tokens.specs.declared.marks.Mark.TheVariants as marks
 use Rattle.hm_tokens.specs.declared.token.Class.TheVariants as classes
 use Rattle.hm_tokens.specs.Tokens.{Tok, word, number, mark, is_the_mark, skip, token_at}
@@ -42,15 +42,11 @@ colon_le text x e =
     let p = and_then_some (token_at (skip text)) (λ y. mark_with marks.Colon y.0 y.1) x e in
     omega (arith, skip_le text, token_shorter (skip text) p.0 p.1, colon_rest p.0.0 p.0.1 x p.2)
 
-map_some : {A B : Type 0} (o : Option A) (f : A → B) (y : B) → option_map f o ≡ Some y → (x : A) × (o ≡ Some x) × (f x ≡ y)
-map_some (Some x) f y e = (x, refl, some_is (f x) y e)
-map_some None f y e = absurd cc
-
 label_le : (text : List ℕ) (o : Option (List ℕ × List ℕ)) → label_of text ≡ o → length (behind_label text o) ≤ length text
 label_le text None e = omega arith
 label_le text (Some x) e =
     let p = and_then_some (word_in_front text) (λ y. option_map (λ rest. (y.0, rest)) (behind_mark marks.Colon y.1)) x e in
-    let q = map_some (behind_mark marks.Colon p.0.1) (λ (rest : List ℕ). (p.0.0, rest)) x p.2 in
+    let q = map_some (λ (rest : List ℕ). (p.0.0, rest)) (behind_mark marks.Colon p.0.1) x p.2 in
     let same : length q.0 ≡ length x.1 = ap (λ (y : List ℕ × List ℕ). length y.1) q.2 in
     omega (arith, behind_word text p.0 p.1, colon_le p.0.1 q.0 q.1, same)
 

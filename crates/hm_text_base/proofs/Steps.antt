@@ -1,6 +1,6 @@
 -- Steps of reading that did not fail.
 use Rattle.std.proofs.Common.{◌≡◌, Bool, true, false, cond, Option, Some, None, Result, Ok, Err, refl}
-use Rattle.std.specs.Prelude.{option_and_then, ok_or}
+use Rattle.std.specs.Prelude.{option_and_then, option_map, ok_or}
 use Rattle.hm_text_base.specs.Reading.{◌>>=◌}
 
 pub bind_ok : {A B E : Type 0} (r : Result A E) (f : A → Result B E) (y : B) → (r >>= f) ≡ Ok y → (x : A) × (r ≡ Ok x) × (f x ≡ Ok y)
@@ -32,6 +32,10 @@ some_is x y e = cc
 pub and_then_some : {A B : Type 0} (o : Option A) (f : A → Option B) (y : B) → option_and_then f o ≡ Some y → (x : A) × (o ≡ Some x) × (f x ≡ Some y)
 and_then_some (Some x) f y e = (x, refl, e)
 and_then_some None f y e = absurd cc
+
+pub map_some : {A B : Type 0} (f : A → B) (o : Option A) (y : B) → option_map f o ≡ Some y → (x : A) × (o ≡ Some x) × (f x ≡ y)
+map_some f (Some x) y e = (x, refl, some_is (f x) y e)
+map_some f None y e = absurd cc
 
 -- what a test that refuses lets through
 pub guard_some : {A : Type 0} (b : Bool) (o : Option A) (y : A) → cond b None o ≡ Some y → (b ≡ false) × (o ≡ Some y)

@@ -3,17 +3,13 @@ use Rattle.std.proofs.Common.{◌≡◌, ℕ, zero, suc, ◌≤◌, true, false,
 use Rattle.std.specs.Prelude.{option_map, IfSome}
 use Rattle.std.proofs.lemmas.Bool.{cases_Bool, eqb-true, ne_eqb}
 use Rattle.hm_text_base.specs.Reading.{ReadsSome}
-use Rattle.hm_text_base.proofs.Steps.{and_then_some, some_is, test_some}
+use Rattle.hm_text_base.proofs.Steps.{and_then_some, map_some, some_is, test_some}
 use Rattle.hm_tokens.specs.Tokens.{Tok, token_at, skip}
 use Rattle.hm_tokens.specs.Lines.{AreTokensOf, IsLineOf, is_gap}
 use Rattle.hm_tokens.specs.Steps.{line_in, tokens_from}
 
 abbrev given : {A : Type 0} → A → Option A
 given x = Some x
-
-map_some : {A B : Type 0} (f : A → B) (o : Option A) (y : B) → option_map f o ≡ Some y → (x : A) × (o ≡ Some x) × (f x ≡ y)
-map_some f (Some x) y e = (x, refl, some_is (f x) y e)
-map_some f None y e = absurd cc
 
 is_nil : (xs : List ℕ) → eqb (length xs) 0 ≡ true → xs ≡ []
 is_nil [] e = refl

@@ -16,11 +16,6 @@ use Rattle.hm_words.specs.Words.{most, not_past, number_of, not_zero, every_of, 
 
 -- ---- numbers
 
--- a mapping that gave something
-pub map_some : {A B : Type 0} (f : A → B) (o : Option A) (y : B) → option_map f o ≡ Some y → (x : A) × (o ≡ Some x) × (f x ≡ y)
-map_some f (Some x) y e = (x, refl, some_is (f x) y e)
-map_some f None y e = absurd cc
-
 not_past-small : (limit n : ℕ) → n ≤ limit → not_past limit n ≡ Some n
 not_past-small limit n few = grind (arith, nat_tests)
 

@@ -7,12 +7,12 @@ use Rattle.std.proofs.lemmas.Slice.Eq.{bytes_eq-Decides}
 use Rattle.hm_text_base.specs.Numbers.{word_in}
 use Rattle.hm_text_base.specs.Texts.{hex8}
 use Rattle.hm_text_base.proofs.NumberLaws.{word_found, word_again}
-use Rattle.hm_text_base.proofs.Steps.{and_then_some, some_is}
+use Rattle.hm_text_base.proofs.Steps.{and_then_some, map_some, some_is}
 use Rattle.hm_words.specs.Words.{most, most_planned, number_of, every_of, range_in, Source, source_of, Form, run, seq, dis, asm, soak, debug, journal, replay}
 use Rattle.hm_words.specs.Words.{migrate, plan, hex, kernel, two_names, run_form, seq_form, dis_form, asm_form, soak_form, debug_form, journal_form}
 use Rattle.hm_words.specs.Words.{replay_form, migrate_form, plan_form, hex_form, kernel_form, commands, form_in, form_of, IsRange, IsRun, IsSeq, IsDis, IsAsm}
 use Rattle.hm_words.specs.Words.{IsSoak, IsDebug, IsJournal, IsReplay, IsMigrate, IsPlan, IsHex, IsKernel}
-use Rattle.hm_words.proofs.Decimals.{map_some, number_of-is, number_of-decimal, every_of-is, every_of-decimal, source_of-word, source_of-is, range_in-is}
+use Rattle.hm_words.proofs.Decimals.{number_of-is, number_of-decimal, every_of-is, every_of-decimal, source_of-word, source_of-is, range_in-is}
 use Rattle.hm_words.proofs.Decimals.{range_in-again}
 
 -- ---- the command of a name
