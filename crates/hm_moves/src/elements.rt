@@ -2,7 +2,6 @@
 
 ghost use Rattle.std.specs.Prelude.{◌≡◌, ℕ, ◌+◌, ◌-◌, ◌*◌, ◌^◌, ◌<◌, ◌≤◌, true, false, get_or, length, None, List};
 ghost use Rattle.std.specs.Result.{result_err};
-ghost use Rattle.hm_base.specs.Bits.{put_field};
 ghost use Rattle.hm_beat.specs.Touches.{spanned};
 ghost use Rattle.hm_mem.specs.Devices.{IsLen};
 ghost use Rattle.hm_mem.specs.Memory.{memory_of};
@@ -16,9 +15,10 @@ ghost use Rattle.hm_moves.specs.Ways.{moves_of};
 
 use crate::Move;
 use arrayvec::ArrayVec;
-use hm_base::{Span, Spans, Stop, bits};
+use hm_base::{Span, Spans, Stop};
 use hm_lane::Size;
 use hm_mem::{Access, Mem};
+use hm_regs::put_bits;
 
 /// An element that a beat moves.
 #[derive(Clone, Copy, Debug, Default, PartialEq, Eq)]
@@ -72,18 +72,6 @@ pub fn check_all(es: &[Element], z: Size, store: bool, m: &Mem) -> Result<(), St
         }
     }
     Ok(())
-}
-
-/// `w` with the low bits of `x` as its bits `hi` to `lo`.
-fn put_bits(w: u32, hi: u32, lo: u32, x: u32) -> u32
-    requires order { lo ≤ hi }
-    requires top { hi ≤ 31 }
-    ensures { result ≡ put_field lo (hi + 1 - lo) x w }
-{
-    let high = (w as u64 >> (hi + 1)) << (hi + 1);
-    let middle = (bits(x, hi - lo, 0) as u64) << lo;
-    let low = w as u64 % (1 << lo);
-    (high + middle + low) as u32
 }
 
 /// The highest bit of an element.

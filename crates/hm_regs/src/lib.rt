@@ -54,8 +54,8 @@ pub struct Regs {
     pub ipsr: u16,
 }
 
-/// `w` with the low bits of `x` as its bits `hi` to `lo`.
-fn put_bits(w: u32, hi: u32, lo: u32, x: u32) -> u32
+/// `w` with the low bits of `x` as its bits `hi` to `lo`, which are 31 to 0.
+pub fn put_bits(w: u32, hi: u32, lo: u32, x: u32) -> u32
     requires order { lo ≤ hi }
     requires top { hi ≤ 31 }
     ensures { result ≡ put_field lo (hi + 1 - lo) x w }
