@@ -5,7 +5,7 @@ use Rattle.std.specs.Prelude.{IsSome}
 use Rattle.std.proofs.lemmas.Bool.{cases_lt}
 use Rattle.std.proofs.Math.Nat.{div-eq_of_lt-le}
 use Rattle.std.proofs.Math.Seq.{take-length}
-use Rattle.std.proofs.lemmas.List.{append-nil, length-append, take-append-le}
+use Rattle.std.proofs.lemmas.List.{length-append, take-append-le}
 use Rattle.std.proofs.lemmas.Option.{slice_get-get_or}
 use Rattle.hm_base.specs.Image.{Segment, flash_byte}
 use Rattle.hm_codes.proofs.Exists.{exists}
@@ -16,7 +16,7 @@ use Rattle.hm_machine.specs.Checkpoints.{IsKept, at_checkpoint}
 use Rattle.hm_machine.specs.Shown.{Fixed, Shown, Shows, fixed_of}
 use Rattle.hm_machine.specs.Tapes.{AreApart, AreKept, ShowsTick, first_of, machine_at}
 use Rattle.hm_machine.specs.declared.checkpoint.Checkpoint.{Checkpoint}
-use Rattle.hm_position.proofs.Outputs.{output_grows}
+use Rattle.hm_position.proofs.Outputs.{begins_same, output_grows}
 use Rattle.hm_position.specs.Next.{Begins}
 use Rattle.hm_sched.specs.Schedule.{Sched, ticks_of}
 use Rattle.hm_state.specs.State.{state_of}
@@ -44,9 +44,6 @@ pub only_one : {A : Type 0} (old new : List A) (x : A) → old ≡ [] → new �
 only_one old new x none is = is ∙ ap (λ (xs : List _). xs ++ x ∷ []) none
 
 -- THE OUTPUT
-pub begins_same : (xs : List ℕ) → Begins xs xs
-begins_same xs = ([], sym (append-nil xs))
-
 same_start : (o p : List ℕ) (n : ℕ) → Begins o p → n ≤ length o → take n p ≡ take n o
 same_start o p n h le = ap (take n) h.1 ∙ take-append-le n o h.0 le
 
