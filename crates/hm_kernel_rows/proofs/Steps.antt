@@ -1,9 +1,8 @@
 -- A step of an instruction on core registers, and what it leaves.
-use Rattle.std.proofs.Common.{◌≡◌, ◌≢◌, ℕ, ◌+◌, ◌-◌, ◌*◌, ◌/◌, ◌%◌, ◌^◌, ◌<◌, ◌≤◌, Bool, true, false, cond, not, ◌||◌, ◌&&◌, refl, sym, ap, ◌∙◌, subst, arith}
+use Rattle.std.proofs.Common.{◌≡◌, ◌≢◌, ℕ, ◌+◌, ◌-◌, ◌*◌, ◌%◌, ◌^◌, ◌<◌, ◌≤◌, Bool, true, false, cond, ◌&&◌, refl, sym, ap, ◌∙◌, subst, arith}
 use Rattle.std.proofs.Common.{nat_eq}
 use Rattle.std.specs.Prelude.{Result, Ok}
 use Rattle.std.proofs.lemmas.Bool.Decides.{nat_tests}
-use Rattle.std.proofs.Math.Bool.{or-true}
 use Rattle.hm_base.specs.declared.Fault.{Fault}
 use Rattle.hm_base.specs.declared.Place.TheVariants.{R, Ltp}
 use Rattle.hm_codes.specs.Listing.{Listing}
@@ -17,21 +16,22 @@ use Rattle.hm_isa.specs.declared.data.HalfName.TheVariants as half
 use Rattle.hm_lane.specs.Predicate.{with_context}
 use Rattle.hm_mem.specs.Seen.{Seen}
 use Rattle.hm_regs.specs.Place.{Counted, value_at, with_value}
-use Rattle.hm_regs.proofs.Places.{value_at-other, value_at-same}
+use Rattle.hm_regs.proofs.Places.{other_register, value_at-other, value_at-same}
 use Rattle.hm_regs.proofs.Writes.{counted}
 use Rattle.hm_regs.specs.declared.Regs.{Regs}
 use Rattle.hm_state.specs.State.{State, regs_of}
 use Rattle.hm_isa.specs.Words.{imm16, negative}
 use Rattle.hm_thumb.specs.Arithmetic.{add_with_carry}
-use Rattle.hm_thumb.specs.Blocks.{advanced, advanced_byte, condition_holds, condition_passed, in_it_block}
+use Rattle.hm_thumb.specs.Blocks.{advanced, advanced_byte}
 use Rattle.hm_thumb.specs.Does.{Does, Ends, alone, goes, run}
 use Rattle.hm_thumb.specs.DataRows.{half_put, t4}
 use Rattle.hm_thumb.specs.RegisterRows.{byte_row, operand, put, put_any, reg, s4, s6, with_nz, with_nzcv}
 use Rattle.hm_isa.specs.Code.{width_of}
-use Rattle.hm_thumb.specs.Rows.{instr_does, is_breakpoint, needs_context, runs}
+use Rattle.hm_thumb.specs.Rows.{instr_does, needs_context, runs}
 use Rattle.hm_thumb.specs.Steps.{Stepped, finish, flow_of, go_on, settled, step}
 use Rattle.hm_thumb.specs.declared.Way.{Way}
 use Rattle.hm_thumb.specs.declared.Way.TheVariants as way
+use Rattle.hm_thumb.proofs.Stepping.{condition_passes, outside_block, scalar_runs}
 use Rattle.hm_run.specs.Program as program
 use Rattle.hm_run.specs.Stops.{Faults, WholeStop}
 use Rattle.hm_whole.specs.Whole.{goes_from, scalar_alone, seen_in, state_with}
@@ -41,9 +41,6 @@ use Rattle.hm_kernel_lang.specs.Correct.{Reaches, and_then}
 use Rattle.hm_kernel_rows.specs.Shows.{Shows}
 use Rattle.hm_kernel_rows.specs.Standing.{Stands}
 use Rattle.hm_kernel_rows.proofs.Scalars.{InRegs, from_state, to_state}
-
-other_register : (a b : ℕ) → a ≢ b → R a ≢ R b
-other_register a b h e = h cc
 
 -- REGISTERS THAT ARE WRITTEN
 module _ (t : ElementType) (v : View) (r : Regs) (m : Seen) (h : InRegs t v r m) where
@@ -205,23 +202,14 @@ module _ (t : ElementType) (v : View) (r : Regs) (m : Seen) (h : InRegs t v r m)
       subst (λ (p : ℕ). InRegs t (record v { pc = v.pc + n }) (record (advanced r) { pc = p }) m) (sym e) (at_address (v.pc + n))
 
 -- ONE STEP
-outside_block : (r : Regs) → r.it ≡ 0 → in_it_block r ≡ false
-outside_block r e = ap (λ (k : ℕ). not (nat_eq (k % 16) 0)) e
-
-passed : (r : Regs) → r.it ≡ 0 → condition_passed r ≡ true
-passed r e = ap (λ (b : Bool). not b || condition_holds (r.it / 16) r) (outside_block r e)
-
 -- what an instruction that runs does
 step_is : (i : Instr) (r : Regs) (m : Seen) → runs i r ≡ true
     → step alone i r m ≡ finish (width_of i) (run alone (instr_does i (cond (needs_context i) (with_context r) r)) m)
 step_is i r m e = ap (λ (b : Bool). finish (width_of i) (run alone (cond b (instr_does i (cond (b && needs_context i) (with_context r) r)) (goes r)) m)) e
 
 -- an instruction runs where no block holds
-pub scalar_runs : (x : Scalar) (r : Regs) → r.it ≡ 0 → runs (instr.Scalar x) r ≡ true
-scalar_runs x r e = ap (λ (b : Bool). is_breakpoint x || b) (passed r e) ∙ or-true (is_breakpoint x)
-
 pub branch_runs : (x : Branch) (r : Regs) → r.it ≡ 0 → runs (instr.Branch x) r ≡ true
-branch_runs x r e = passed r e
+branch_runs x r e = condition_passes r e
 
 module _ (t : ElementType) (listing : Listing) where
   -- a step that comes to a state
