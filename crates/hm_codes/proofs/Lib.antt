@@ -10,4 +10,5 @@ pub mod Vectors
 pub mod Widths
 pub mod Tables
 pub mod Unique
+pub mod Standing
 pub mod Exists

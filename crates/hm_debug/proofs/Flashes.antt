@@ -1,23 +1,17 @@
 -- What stands in flash, and lines of the listing.
-use Rattle.std.proofs.Common.{◌≡◌, ℕ, zero, suc, ◌+◌, ◌-◌, ◌*◌, ◌<◌, ◌≤◌, ap, arith, refl, sym, ◌∙◌, Bool, true, false, cond, List, [], ◌∷◌, ◌++◌, append-nil}
-use Rattle.std.proofs.Common.{append_assoc, length, nat_lt, Result, Ok, Err}
+use Rattle.std.proofs.Common.{◌≡◌, ℕ, zero, suc, ◌+◌, ◌-◌, ◌<◌, ◌≤◌, ap, arith, refl, sym, ◌∙◌, Bool, true, false, cond, List, [], ◌++◌, append-nil}
+use Rattle.std.proofs.Common.{append_assoc, nat_lt, Result, Ok, Err}
 use Rattle.std.proofs.lemmas.Bool.Decides.{nat_tests}
 use Rattle.hm_base.specs.Image.{flash_size}
 use Rattle.hm_base.specs.declared.Fault.{Fault}
 use Rattle.hm_codes.proofs.Unique.{unique}
-use Rattle.hm_codes.specs.Listing.{HalvesStand, IsFetched, IsListing, Listing, Stands, half_at}
+use Rattle.hm_codes.specs.Listing.{IsFetched, IsListing, Listing, Stands, half_at}
+use Rattle.hm_codes.proofs.Standing.{halves_within, some_halfword}
 use Rattle.hm_debug.specs.Lines.{after_entry, entry_at, entry_of, listing_lines}
 use Rattle.hm_isa.specs.Code.{halfwords}
 use Rattle.hm_isa.specs.declared.Instr.{Instr}
-use Rattle.hm_listing.proofs.Halves.{some_half}
 use Rattle.hm_listing.proofs.LinesLeft.{IsAdded}
 use Rattle.hm_listing.specs.Listings.{Entry, IsEntry, entry_line, half, shown}
-
--- a code lies in flash
-halves_within : (flash : ℕ → ℕ) (hs : List ℕ) (a : ℕ) → HalvesStand flash hs a → 1 ≤ length hs → a + 2 * length hs ≤ flash_size
-halves_within flash [] a h some = absurd (omega (arith, some))
-halves_within flash (k ∷ []) a h some = let first = h.0 in omega (arith, first)
-halves_within flash (k ∷ l ∷ hs) a h some = let rest = halves_within flash (l ∷ hs) (a + 2) h.2 (omega arith) in omega (arith, rest)
 
 -- WHAT A LISTING TELLS
 entry_fetched : (flash : ℕ → ℕ) (a : ℕ) (x : Result Instr Fault) (i : Instr) → IsFetched flash a x → Stands flash a i → entry_of flash a x ≡ shown i
@@ -41,7 +35,7 @@ pub entry_is : (flash : ℕ → ℕ) (listing : Listing) (a : ℕ) (e : Entry) �
 entry_is flash listing a (shown i) listed is = entry_shown flash listing a i listed is.0
 entry_is flash listing a (half h) listed is =
     entry_half flash listing a listed
-    (λ i stands. let past = is.0 i stands in let within = halves_within flash (halfwords i) a stands.code (some_half i) in omega (arith, past, within))
+    (λ i stands. let past = is.0 i stands in let within = halves_within flash (halfwords i) a stands.code (some_halfword i) in omega (arith, past, within))
     ∙ ap (λ (x : ℕ). half x) (sym is.1)
 
 -- LINES

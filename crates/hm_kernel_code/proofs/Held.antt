@@ -1,7 +1,7 @@
 -- A list of instructions whose halfwords stand in flash: each stands there.
 use Rattle.std.proofs.Common.{◌≡◌, ℕ, ◌+◌, ◌*◌, ◌%◌, ◌<◌, ◌≤◌, List, [], ◌∷◌, ◌++◌, length, map, refl, ap, subst, arith, length-append}
-use Rattle.hm_base.specs.Image.{flash_size}
 use Rattle.hm_codes.specs.Listing.{HalvesStand}
+use Rattle.hm_codes.proofs.Standing.{halves_behind, halves_front, halves_within}
 use Rattle.hm_isa.specs.declared.Instr.{Instr}
 use Rattle.hm_isa.specs.Code.{halfwords}
 use Rattle.hm_kernel_lang.specs.declared.text.ElementType.{ElementType}
@@ -17,22 +17,6 @@ use Rattle.hm_kernel_lang.proofs.Straight.{items_halves, plain_halves}
 use Rattle.hm_code_bytes.specs.Bytes.{all_halves}
 use Rattle.hm_kernel_code.specs.Instructions.{AreItems, IsItem, IsKind, IsOperation, StaysIn}
 use Rattle.hm_kernel_code.specs.Images.{StandsIn}
-
--- HALFWORDS
-front : (flash : ℕ → ℕ) (hs ks : List ℕ) (a : ℕ) → HalvesStand flash (hs ++ ks) a → HalvesStand flash hs a
-front flash [] ks a h = tt
-front flash (x ∷ hs) ks a h = (h.0, h.1, front flash hs ks (a + 2) h.2)
-
-behind : (flash : ℕ → ℕ) (hs ks : List ℕ) (a : ℕ) → HalvesStand flash (hs ++ ks) a → HalvesStand flash ks (a + 2 * length hs)
-behind flash [] ks a h = let e : a ≡ a + 2 * 0 = omega arith in subst (HalvesStand flash ks) e h
-behind flash (x ∷ hs) ks a h =
-    let e : a + 2 + 2 * length hs ≡ a + 2 * length (x ∷ hs) = omega arith in
-    subst (HalvesStand flash ks) e (behind flash hs ks (a + 2) h.2)
-
-room : (flash : ℕ → ℕ) (hs : List ℕ) (a : ℕ) → HalvesStand flash hs a → 0 < length hs → a + 2 * length hs ≤ flash_size
-room flash [] a h s = absurd (omega arith)
-room flash (x ∷ []) a h s = let l = h.0 in omega arith
-room flash (x ∷ y ∷ hs) a h s = let l = room flash (y ∷ hs) (a + 2) h.2 (omega arith) in omega arith
 
 -- HOW LONG EACH KIND IS
 operation_width : (t : ElementType) (o : Op) (q : ℕ) (i : Instr) → IsOperation t o q i → length (halfwords i) ≡ 2
@@ -95,13 +79,13 @@ items_stand t flash a [] is even k h s = tt
 items_stand t flash a (x ∷ xs) [] even k h s = absurd k
 items_stand t flash a (x ∷ xs) (i ∷ is) even k h s =
     let width = item_width t x i k.0 in
-    let here = front flash (halfwords i) (all_halves is) a h in
+    let here = halves_front flash (halfwords i) (all_halves is) a h in
     let some = some_item x in
-    let fits = room flash (halfwords i) a here (omega arith) in
+    let fits = halves_within flash (halfwords i) a here (omega arith) in
     let next : a + 2 * length (halfwords i) ≡ a + 2 * item_halves x = omega arith in (
       record { instr = i; here = record { even = even; code = here }; is = k.0; fits = omega arith; reach = s.0 },
       items_stand t flash (a + 2 * item_halves x) xs is (omega arith) k.1
-          (subst (HalvesStand flash (all_halves is)) next (behind flash (halfwords i) (all_halves is) a h)) s.1,
+          (subst (HalvesStand flash (all_halves is)) next (halves_behind flash (halfwords i) (all_halves is) a h)) s.1,
     )
 
 pub total : (t : ElementType) (xs : List Item) (is : List Instr) → AreItems t xs is → length (all_halves is) ≡ items_halves xs

@@ -1,23 +1,10 @@
 -- Halfwords that stand at an address, as a line shows them.
-use Rattle.std.proofs.Common.{◌≡◌, ℕ, ◌+◌, ◌*◌, ◌≤◌, ◌⊎◌, List, [], ◌∷◌, length, Some, None, refl, arith, inl, inr, ◌∙◌}
+use Rattle.std.proofs.Common.{◌≡◌, ℕ, ◌+◌, ◌*◌, ◌⊎◌, List, [], ◌∷◌, length, Some, None, arith, inl, inr, ◌∙◌}
 use Rattle.hm_codes.specs.Listing.{half_at, HalvesStand, Stands}
-use Rattle.hm_isa.specs.Code.{halfwords, halves_by_width}
-use Rattle.hm_isa.specs.Widths.{by_width}
+use Rattle.hm_codes.proofs.Standing.{lengths}
+use Rattle.hm_isa.specs.Code.{halfwords}
 use Rattle.hm_isa.specs.declared.Instr.{Instr}
-use Rattle.hm_isa.specs.declared.widths.ByWidth.{ByWidth}
-use Rattle.hm_isa.specs.declared.widths.ByWidth.TheVariants as by
 use Rattle.hm_listing.specs.Listings.{halves_from}
-
--- an instruction has one halfword or two
-lengths_by : (w : ByWidth) → (length (halves_by_width w) ≡ 1) ⊎ (length (halves_by_width w) ≡ 2)
-lengths_by (by.Narrow r) = inl refl
-lengths_by w = inr refl
-
-lengths : (i : Instr) → (length (halfwords i) ≡ 1) ⊎ (length (halfwords i) ≡ 2)
-lengths i = lengths_by (by_width i)
-
-pub some_half : (i : Instr) → 1 ≤ length (halfwords i)
-some_half i = elim (lengths i) [ inl e ↦ omega (arith, e) | inr e ↦ omega (arith, e) ]
 
 -- the one or two that stand at an address are those of the code
 one_stands : (flash : ℕ → ℕ) (hs : List ℕ) (a : ℕ) → HalvesStand flash hs a → length hs ≡ 1 → halves_from (half_at flash a) None ≡ hs

@@ -3,10 +3,10 @@ use Rattle.std.proofs.Common.{◌≡◌, ℕ, ◌+◌, ◌*◌, ◌≤◌, ◌<�
 use Rattle.std.proofs.lemmas.List.{append-nil}
 use Rattle.hm_codes.specs.Listing.{Stands}
 use Rattle.hm_codes.proofs.Unique.{unique}
+use Rattle.hm_codes.proofs.Standing.{some_halfword}
 use Rattle.hm_isa.specs.Code.{halfwords, width_of}
 use Rattle.hm_isa.specs.declared.Instr.{Instr}
 use Rattle.hm_listing.specs.Listings.{Entry, shown, half, halves_of, IsEntry, AreEntries, IsListed, lines_from, entry_line}
-use Rattle.hm_listing.proofs.Halves.{some_half}
 
 one_entry : (flash : ℕ → ℕ) (a hi : ℕ) (d e : Entry) → IsEntry flash a hi d → IsEntry flash a hi e → d ≡ e
 one_entry flash a hi (shown i) (shown j) x y = ap (λ (k : Instr). shown k) (unique flash a i j x.0 y.0)
@@ -30,7 +30,7 @@ one_listing flash lo hi x y l m = l.2 ∙ ap (λ (k : List Entry). lines_from lo
 -- the range of an instruction has its line
 pub own_line : (flash : ℕ → ℕ) (lo hi : ℕ) (i : Instr) → Stands flash lo i → hi ≡ lo + width_of i → IsListed flash lo hi (entry_line lo (shown i))
 own_line flash lo hi i stands is =
-    let some : 1 ≤ length (halfwords i) = some_half i in
+    let some : 1 ≤ length (halfwords i) = some_halfword i in
     (shown i ∷ [], (omega (arith, is, some), (stands, omega (arith, is)), sym is), sym (append-nil (entry_line lo (shown i))))
 
 pub own_is : (flash : ℕ → ℕ) (lo hi : ℕ) (i : Instr) (x : List ℕ) → Stands flash lo i → hi ≡ lo + width_of i → IsListed flash lo hi x

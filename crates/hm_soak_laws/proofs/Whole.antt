@@ -94,7 +94,7 @@ soak_stands n x y is listing few items lists =
     let image = flat (vectors ++ half_bytes (all_halves is)) in
     let size = size_is n x y is items in
     let stand : HalvesStand (flash_byte image) (all_halves is) 68 = held vectors (all_halves is) (omega arith) in
-    stand_from (flash_byte image) listing lists is 68 refl (omega arith) stand
+    stand_from (flash_byte image) listing lists is 68 refl stand
 
 halts_with : (n x y : ℕ) (is : List Instr) (listing : Listing) → n ≤ 100000 → AreItems (head ++ ((fill 4 0 x ++ operations n 0 y) ++ (Bkpt 0 ∷ handler))) is
     → let image = flat (vectors ++ half_bytes (all_halves is)) in IsListing (flash_byte image) listing → HaltsInOrder listing image (4 + (12 + n) + 1)
