@@ -12,6 +12,7 @@ use Rattle.hm_beat.specs.Laws.{Checks, run}
 use Rattle.hm_beat.specs.Meeting.{has_byte}
 use Rattle.hm_beat.specs.Touches.{span_bytes, span_rest, spanned, stores_in}
 use Rattle.hm_beat.specs.Trees.{action}
+use Rattle.hm_beat.proofs.Exchange.{rest_stays}
 use Rattle.hm_codes.specs.Listing.{Listing}
 use Rattle.hm_cpu.specs.Trials.{HoldsAll, standing}
 use Rattle.hm_isa.specs.declared.Vector.{Vector}
@@ -21,7 +22,6 @@ use Rattle.hm_order.specs.Beats.{then}
 use Rattle.hm_order.specs.Machine as order
 use Rattle.hm_order.specs.Machine.{Config, did, done, older_of, settle, younger, younger_of}
 use Rattle.hm_in_order.proofs.Laws.{caused_ok}
-use Rattle.hm_in_order.proofs.Vectors.{beat_rest}
 use Rattle.hm_plan_laws.specs.Greedy.{goes_on, is_ready}
 use Rattle.hm_regs.specs.declared.Regs.{Regs}
 use Rattle.hm_rows.specs.Rows.{vector_tree}
@@ -186,7 +186,7 @@ stored v r m output t p beat same =
     record {
       bytes = λ a h. ap (λ (x : Value). x.n) (kept.bytes a h);
       taint = λ a h. ap (λ (x : Value). x.taint) (kept.bytes a h);
-      devices = ap (λ (x : Rest). x.devices) (beat_rest (vector_tree v m.around 2) s (state_of t p output) did);
+      devices = ap (λ (x : Rest). x.devices) (rest_stays (vector_tree v m.around 2) s (state_of t p output) did);
       elsewhere = same;
     }
 

@@ -5,6 +5,7 @@ use Rattle.hm_beat.specs.Laws.{WritesTaint}
 use Rattle.hm_beat.specs.Ordered.{nothing, of_four}
 use Rattle.hm_beat.specs.Trees.{action, reach}
 use Rattle.hm_beat.proofs.Tainting.{beat_hides}
+use Rattle.hm_beat.proofs.Exchange.{rest_stays}
 use Rattle.hm_exc.specs.Entry.{in_frame}
 use Rattle.hm_exc.specs.declared.types.Activation.{Activation}
 use Rattle.hm_isa.specs.declared.Instr.{Instr}
@@ -19,7 +20,6 @@ use Rattle.hm_order.specs.Machine.{begin}
 use Rattle.hm_order.proofs.Results.{decide, ok_err, ok_same, true_not_false}
 use Rattle.hm_in_order.proofs.Laws.{begun_in, caused_ok}
 use Rattle.hm_in_order.proofs.Ticks.{open_arrived, open_cond}
-use Rattle.hm_in_order.proofs.Vectors.{beat_rest}
 use Rattle.hm_rows.proofs.Context.{context_fresh, fresh}
 use Rattle.hm_rows.proofs.Rows.{row_laws}
 use Rattle.hm_rows.specs.Context.{with_context}
@@ -136,7 +136,7 @@ module _ (x : Around) (handler : marks x.actor ≡ true) where
   beat_hidden v k s t e =
       let tree = of_four (vector_tree v x) k in
       let run : (action cells tree).run s ≡ Ok t = caused_ok ((action cells tree).run s) t e in
-      let rest : t.rest ≡ s.rest = beat_rest tree s t run in
+      let rest : t.rest ≡ s.rest = rest_stays tree s t run in
       record {
         bytes = beat_hides tree s t (taints v k s) run;
         devices = ap (λ (r : Rest). open_devices r.devices) rest;

@@ -9,6 +9,7 @@ use Rattle.hm_base.specs.declared.Place.TheVariants.{Ltp}
 use Rattle.hm_base.specs.declared.Stop.{Stop}
 use Rattle.hm_beat.specs.Ordered.{of_four}
 use Rattle.hm_beat.specs.Trees.{action}
+use Rattle.hm_beat.proofs.Exchange.{rest_stays}
 use Rattle.hm_codes.specs.Listing.{Listing}
 use Rattle.hm_exc.specs.Frame.{is_between}
 use Rattle.hm_isa.specs.declared.Instr.{Instr}
@@ -23,7 +24,6 @@ use Rattle.hm_mem.specs.Memory.{Around}
 use Rattle.hm_order.specs.Beats.{then}
 use Rattle.hm_order.specs.Machine.{Config, End, begin, did, done, older, older_of, settle, younger, younger_of}
 use Rattle.hm_order.proofs.Results.{ok_same, then_ok}
-use Rattle.hm_in_order.proofs.Vectors.{beat_rest}
 use Rattle.hm_regs.specs.Stacks.{HandlerOnMain}
 use Rattle.hm_regs.specs.declared.Regs.{Regs}
 use Rattle.hm_rows.proofs.Context.{context_fresh, context_ready, fresh}
@@ -134,7 +134,7 @@ module _ (listing : Listing) (x : Around) where
   machine = core listing x
 
   beat_stays : (v : Vector) (b : ℕ) (s t : State) → ((rows x).act v b).run s ≡ Ok t → t.rest ≡ s.rest
-  beat_stays v b s t e = let tree = of_four (vector_tree v x) b in beat_rest tree s t (caused_ok ((action cells tree).run s) t e)
+  beat_stays v b s t e = let tree = of_four (vector_tree v x) b in rest_stays tree s t (caused_ok ((action cells tree).run s) t e)
 
   row_begins : (v : Vector) (a b : ℕ) (s t : State) → (is_between (record { a = a; b = b }) ≡ false → Ready s.rest) → begin machine v a s ≡ Ok t
       → Same s.rest t.rest × Ready t.rest

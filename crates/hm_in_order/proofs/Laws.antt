@@ -39,6 +39,7 @@ use Rattle.hm_window.specs.declared.rule.Rule.TheVariants as rule
 use Rattle.hm_beat.specs.declared.clash.Clash.{Clash}
 use Rattle.hm_beat.specs.Meeting.{clash_with}
 use Rattle.hm_beat.proofs.Remaining.{left_apart}
+use Rattle.hm_beat.proofs.Exchange.{rest_stays}
 use Rattle.hm_window.specs.Overlap.{first_rule, is_too_early, rule_of_clash}
 use Rattle.hm_run.specs.Program.{alone, begins, doing_alone, doing_in_machine, cause_of, caused, core, done_as, with_cause, is_ready}
 use Rattle.hm_run.specs.Program.{is_tainted_cause, lifted, makes_here, on_cell, or_fault, other_here, other_row, ready_state}
@@ -50,7 +51,7 @@ use Rattle.hm_rows.proofs.Context.{context_fresh, context_pc, context_ready, con
 use Rattle.hm_whole.specs.Whole.{Went, scalar_alone, scalar_in_machine}
 use Rattle.hm_whole.proofs.Agreement.{whole-live}
 use Rattle.hm_in_order.proofs.Breakpoints.{Leaves, TaintedOrAlike, asked_alike, break_alike}
-use Rattle.hm_in_order.proofs.Vectors.{beat_rest, context_clean, four_are, not_refused, ready_counts, ready_same, refuse_same, retire, row_beats, row_pc}
+use Rattle.hm_in_order.proofs.Vectors.{context_clean, four_are, not_refused, ready_counts, ready_same, refuse_same, retire, row_beats, row_pc}
 use Rattle.hm_in_order.proofs.Wholes.{leaves, under_thread, watched_clean}
 
 -- VIEWS
@@ -228,7 +229,7 @@ module _ (b : Tree) where
     where
       frame : (s t : State) → caused ((action cells b).run s) ≡ Ok t → (w : Watched) → on_cell ((action cells b).sets s) w ≡ false → held t w ≡ held s w
       frame s t e (In c) unset = ap InCell ((keeps_laws cells cell_laws b).frame s t (caused_ok ((action cells b).run s) t e) c unset)
-      frame s t e Beside unset = ap (λ (r : Rest). Besides (open_rest r)) (beat_rest b s t (caused_ok ((action cells b).run s) t e))
+      frame s t e Beside unset = ap (λ (r : Rest). Besides (open_rest r)) (rest_stays b s t (caused_ok ((action cells b).run s) t e))
 
 module _ (x : Around) (thread : x.actor ≡ Thread) where
   -- the rows over the cells alone keep the laws
@@ -253,7 +254,7 @@ module _ (x : Around) (thread : x.actor ≡ Thread) where
   valid v j k s t e =
       let b = of_four (vector_tree v x) k in
       let run : (action cells b).run s ≡ Ok t = caused_ok ((action cells b).run s) t e in
-      let rest : t.rest ≡ s.rest = beat_rest b s t run in
+      let rest : t.rest ≡ s.rest = rest_stays b s t run in
       ready_same j t s (ap (λ (r : Rest). r.it) rest) (ap (λ (y : Value). y.n) ((keeps_laws cells cell_laws b).frame s t run (At Ltp) (size_kept v k s)))
       (ap (λ (r : Rest). r.fpca) rest)
 

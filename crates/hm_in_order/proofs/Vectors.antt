@@ -1,5 +1,5 @@
 -- A vector row, alone: the context that it makes, its refusal, and its four beats.
-use Rattle.std.proofs.Common.{◌≡◌, ℕ, ◌+◌, Bool, true, false, not, ◌&&◌, ◌||◌, cond, ltb, nat_eq, nat_lt, map, Option, Some, None, Result, Ok, Err, refl, sym}
+use Rattle.std.proofs.Common.{◌≡◌, ℕ, ◌+◌, Bool, true, false, not, ◌&&◌, ◌||◌, cond, ltb, nat_eq, nat_lt, Option, Some, None, Result, Ok, Err, refl, sym}
 use Rattle.std.proofs.Common.{arith}
 use Rattle.std.proofs.Common.{◌∙◌, ap, subst}
 use Rattle.std.specs.Option.{is_none}
@@ -14,14 +14,14 @@ use Rattle.hm_order.specs.Beats.{beats, then}
 use Rattle.hm_order.proofs.Results.{ok_same, ok_err, then_ok}
 use Rattle.hm_state.specs.State.{State, Value, at, cells}
 use Rattle.hm_state.proofs.Cells.{cell_laws}
-use Rattle.hm_beat.specs.Trees.{action, checked, reach}
+use Rattle.hm_beat.specs.Trees.{action}
 use Rattle.hm_beat.specs.Rows.{Tree, retired}
 use Rattle.hm_mem.specs.Seen.{as_stops}
 use Rattle.hm_beat.specs.Laws.{NoTaint}
 use Rattle.hm_beat.specs.Ordered.{ordered}
 use Rattle.hm_beat.proofs.NoTaint.{beats_clean}
 use Rattle.hm_beat.proofs.Ordered.{whole_ordered}
-use Rattle.hm_beat.proofs.Trees.{finished, keeps_laws, written_rest}
+use Rattle.hm_beat.proofs.Trees.{keeps_laws}
 use Rattle.hm_rows.specs.Context.{with_context}
 use Rattle.hm_rows.specs.Rows.{refuse, vector_tree, vector_whole, writes_lr}
 use Rattle.hm_rows.proofs.Context.{context_bytes, context_pc, context_ready}
@@ -74,12 +74,6 @@ not_refused None s t e = (refl, ok_same e)
 not_refused (Some f) s t e = absurd (ok_err (sym e))
 
 -- BEATS
--- a beat touches cells alone
-pub beat_rest : (b : Tree) (s t : State) → (action cells b).run s ≡ Ok t → t.rest ≡ s.rest
-beat_rest b s t e =
-    ap (λ (x : State). x.rest) (finished cells (checked cells (reach b s).checks s) (reach b s) s t e)
-    ∙ written_rest cells (reach b s).writes (map s.cell (reach b s).reads) s
-
 pub beat_pc : (b : Tree) (s t : State) → (action cells b).run s ≡ Ok t → t.pc ≡ s.pc
 beat_pc b s t e = (keeps_laws cells cell_laws b).stays s t e
 
