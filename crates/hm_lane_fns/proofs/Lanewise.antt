@@ -1,6 +1,7 @@
 -- Lanes of whole registers are those of their words.
 use Rattle.std.proofs.Common.{◌≡◌, ℕ, ◌+◌, ◌*◌, ◌/◌, ◌%◌, ◌<◌, Bool, true, false, cond, ◌&&◌, ◌||◌, eqb, get_or, List, [], ◌∷◌, ◌++◌, map, Some, None, refl}
 use Rattle.std.proofs.Common.{sym, ◌∙◌, ap, arith}
+use Rattle.std.proofs.Math.Bool.{or_assoc}
 use Rattle.std.proofs.lemmas.List.{map-append}
 use Rattle.hm_base.specs.declared.Place.TheVariants.{P0, R, Ltp}
 use Rattle.hm_lane_fns.specs.declared.words.Operand.{Operand}
@@ -47,9 +48,6 @@ four_words Half f u v w = refl
 four_words Word f u v w = refl
 
 -- so are the tests of them
-or_more : (x y z : Bool) → (x || (y || z)) ≡ (x || y || z)
-or_more x y z = grind arith
-
 any_four : (p q r s a b c d : Bool) (ps ts : List Bool)
     → any_both (p ∷ q ∷ r ∷ s ∷ ps) (a ∷ b ∷ c ∷ d ∷ ts) ≡ (any_both (p ∷ q ∷ r ∷ s ∷ []) (a ∷ b ∷ c ∷ d ∷ []) || any_both ps ts)
 any_four p q r s a b c d ps ts = go (p && a) (q && b) (r && c) (s && d) (any_both ps ts)
@@ -67,7 +65,7 @@ any_words p t =
     any_four (p 0 0) (p 0 1) (p 0 2) (p 0 3) (t 0 0) (t 0 1) (t 0 2) (t 0 3) (quad p 1 ++ quad p 2 ++ quad p 3) (quad t 1 ++ quad t 2 ++ quad t 3)
     ∙ ap (λ v. A 0 || v) (any_four (p 1 0) (p 1 1) (p 1 2) (p 1 3) (t 1 0) (t 1 1) (t 1 2) (t 1 3) (quad p 2 ++ quad p 3) (quad t 2 ++ quad t 3)
     ∙ ap (λ v. A 1 || v) (any_four (p 2 0) (p 2 1) (p 2 2) (p 2 3) (t 2 0) (t 2 1) (t 2 2) (t 2 3) (quad p 3) (quad t 3)))
-    ∙ or_more (A 0) (A 1) (A 2 || A 3) ∙ or_more (A 0 || A 1) (A 2) (A 3)
+    ∙ sym (or_assoc (A 0) (A 1) (A 2 || A 3)) ∙ sym (or_assoc (A 0 || A 1) (A 2) (A 3))
 
 -- whether byte j of word b is active
 abbrev pub active_byte : State → ℕ → ℕ → Bool
