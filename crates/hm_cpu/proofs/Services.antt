@@ -19,8 +19,9 @@ use Rattle.hm_thumb.specs.Does as runner
 use Rattle.hm_thumb.specs.Does.{Runner, behind, first_stop, words}
 use Rattle.hm_thumb.specs.Steps.{settled}
 use Rattle.hm_thumb.specs.declared.Way.TheVariants as way
-use Rattle.hm_whole.specs.Whole.{seen_in, state_with}
+use Rattle.hm_whole.specs.Whole.{state_with}
 use Rattle.hm_whole.proofs.Agreement.{made_of}
+use Rattle.hm_whole.proofs.Executed.{seen_made}
 
 -- TEXTS, byte by byte: what is read of a text so far, and what comes of the rest
 abbrev pub behind_these : List ℕ → Result (List ℕ) Stop → Result (List ℕ) Stop
@@ -115,10 +116,6 @@ is_full r m output xs full =
     let test : nat_lt most_output (length output + length xs) ≡ true = grind (arith, nat_tests, full) in
     ap (λ b. cond b (Err cause.Full) (Ok (printed xs (state_of r m output)))) (sym test)
 
-seen_there : (r : Regs) (m : Memory) (output : List ℕ) → seen_in (state_of r m output) ≡ seen m
-unfolding state_of
-seen_there r m output = refl
-
 -- what is asked, from the registers and the memory that make a state
 pub asked_there : (r : Regs) (m : Memory) (output : List ℕ) → Counted r → r.fpscr < 2 ^ 32 → r.vpr < 2 ^ 32
     → (q : Result Asked Stop) → q ≡ asked (runner.in_machine m.around) r (seen m)
@@ -128,7 +125,7 @@ asked_there r m output n f v q e =
     let from = λ (t : Regs) (y : Seen). then (caused (asked (runner.in_machine m.around) t y)) (answered cause_of s) in
     ap (λ z. then (caused z) (answered cause_of s)) e
     ∙ ap (λ (t : Regs). from t (seen m)) (sym (registers_are r m output n f v))
-    ∙ ap (λ (y : Seen). from (regs_of s) y) (sym (seen_there r m output))
+    ∙ ap (λ (y : Seen). from (regs_of s) y) (sym (seen_made r m output))
 
 pub serves : (around : Around) (k : ℕ) (s : State) → k ≡ 171 → served (doing_in_machine around) s ≡ breakpoint (doing_in_machine around) k s
 serves around k s e = ap (λ (n : ℕ). breakpoint (doing_in_machine around) n s) (sym e)

@@ -18,10 +18,11 @@ abbrev pub all_kinds : (Kind → Bool) → List Kind → Bool
 all_kinds test [] = true
 all_kinds test (k ∷ ks) = test k && all_kinds test ks
 
-kind_in : (test : Kind → Bool) (k : Kind) (ks : List Kind) → all_kinds test ks ≡ true → Member k ks → test k ≡ true
-kind_in test k [] e m = absurd m
-kind_in test k (l ∷ ks) e (inl f) = ap test f ∙ both_left _ _ e
-kind_in test k (l ∷ ks) e (inr m) = kind_in test k ks (both_right _ _ e) m
+-- each kind of a list of which all pass a test passes it
+pub kind_passes : (test : Kind → Bool) (k : Kind) (ks : List Kind) → all_kinds test ks ≡ true → Member k ks → test k ≡ true
+kind_passes test k [] e m = absurd m
+kind_passes test k (l ∷ ks) e (inl f) = ap test f ∙ both_left _ _ e
+kind_passes test k (l ∷ ks) e (inr m) = kind_passes test k ks (both_right _ _ e) m
 
 long_bits : (n : ℕ) → n / 2 ^ 29 % 2 ^ 3 ≡ 7 → (n / 2 ^ 28 % 2 ^ 1 ≡ 1) ⊎ (n / 2 ^ 27 % 2 ^ 1 ≡ 1) → 0xe800 ≤ n / 65536
 long_bits n e name = grind arith
@@ -29,7 +30,7 @@ long_bits n e name = grind arith
 pub long_code : {R : Type 0} (C : Coded R) → C.is_told ≡ true → all_kinds is_long_kind C.kinds ≡ true → (r : R) → 0xe800 ≤ C.code r / 65536
 long_code C told long r =
     let (k, m, h) = C.has told r in
-    let test : is_long_kind k ≡ true = kind_in is_long_kind k C.kinds long m in
+    let test : is_long_kind k ≡ true = kind_passes is_long_kind k C.kinds long m in
     long_bits (C.code r) (holds_lem 29 3 7 k.bits (C.code r) (both_left _ _ test) h.bits) (
     either (λ e. inl (holds_lem 28 1 1 k.bits (C.code r) e h.bits)) (λ e. inr (holds_lem 27 1 1 k.bits (C.code r) e h.bits))
     (or_cases _ _ (both_right _ _ test)))
@@ -46,7 +47,11 @@ either_bits f g h i e =
     either (λ j. inl (either (λ k. inl (f k)) (λ k. inr (g k)) (or_cases _ _ j)))
     (λ j. inr (either (λ k. inl (h k)) (λ k. inr (i k)) (or_cases _ _ j))) (or_cases _ _ e)
 
-below_32 : (bs : List Known) (n : ℕ) → nat_le (length bs) 32 ≡ true → Matches bs n → n < 2 ^ 32
+-- what has at most 32 digits is below 2 ^ 32
+abbrev pub has_32 : Kind → Bool
+has_32 k = nat_le (length k.bits) 32
+
+pub below_32 : (bs : List Known) (n : ℕ) → nat_le (length bs) 32 ≡ true → Matches bs n → n < 2 ^ 32
 below_32 bs n e m =
     let h : length bs ≤ 32 = grind (arith, nat_tests) in
     let up : 2 ^ length bs ≤ 2 ^ 32 = pow_mono h in
@@ -56,7 +61,7 @@ below_32 bs n e m =
 pub short_code : {R : Type 0} (C : Coded R) → C.is_told ≡ true → all_kinds is_short_kind C.kinds ≡ true → (r : R) → C.code r < 0xe800
 short_code C told short r =
     let (k, m, h) = C.has told r in
-    let test : is_short_kind k ≡ true = kind_in is_short_kind k C.kinds short m in
+    let test : is_short_kind k ≡ true = kind_passes is_short_kind k C.kinds short m in
     short_bits (C.code r) (holds_lem 16 16 0 k.bits (C.code r) (both_right _ _ (both_left _ _ test)) h.bits)
     (below_32 k.bits (C.code r) (both_left _ _ (both_left _ _ test)) h.bits)
     (either_bits (λ e. holds_lem 15 1 0 k.bits (C.code r) e h.bits) (λ e. holds_lem 14 1 0 k.bits (C.code r) e h.bits)

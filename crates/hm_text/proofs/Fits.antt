@@ -7,9 +7,9 @@ use Rattle.hm_isa.specs.declared.widths.NarrowRow.{NarrowRow}
 use Rattle.hm_isa.specs.declared.widths.WideRow.{WideRow}
 use Rattle.hm_isa.specs.Code.{halfwords, halves_by_width, narrow_code, wide_code}
 use Rattle.hm_isa.specs.Widths.{by_width}
+use Rattle.hm_layout.proofs.Lengths.{below_32, has_32, kind_passes}
 use Rattle.hm_codes.proofs.Widths.{code_length, first_of, joined, rejoined}
 use Rattle.hm_codes.proofs.Unique.{coded_instr, length_instr}
-use Rattle.hm_text_rows.proofs.Fits.{below_32, has_32, kind_in}
 
 -- the code of a row of one halfword is that
 pub halves_narrow : (i : Instr) (r : NarrowRow) → by_width i ≡ by.Narrow r → halfwords i ≡ narrow_code r ∷ []
@@ -26,7 +26,7 @@ narrow_below i r is =
 instr_below : (i : Instr) → joined (halfwords i) < 2 ^ 32
 instr_below i =
     let (k, m, h) = coded_instr.has refl i in
-    below_32 k.bits (joined (halfwords i)) (kind_in has_32 k coded_instr.kinds refl m) h.bits
+    below_32 k.bits (joined (halfwords i)) (kind_passes has_32 k coded_instr.kinds refl m) h.bits
 
 pub wide_below : (i : Instr) (r : WideRow) → by_width i ≡ by.Wide r → wide_code r < 2 ^ 32
 wide_below i r is =

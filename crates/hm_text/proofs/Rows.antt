@@ -1,6 +1,6 @@
 -- Every row that is no vector row: its target, the room for what is printed, how few tokens it has, and the row with the same texts whose
 -- label is near.
-use Rattle.std.proofs.Common.{◌≡◌, ℕ, Bool, ◌%◌, ◌^◌, ◌<◌, ◌≤◌, ◌*◌, List, length, refl, sym, subst, ap, inl, inr, arith}
+use Rattle.std.proofs.Common.{◌≡◌, ℕ, Bool, ◌≤◌, ◌*◌, List, length, refl, sym, subst, ap, inl, inr, arith}
 use Rattle.hm_isa.specs.declared.Branch.TheVariants as branch
 use Rattle.hm_isa.specs.declared.Scalar.TheVariants as scalar
 use Rattle.hm_isa.specs.declared.Instr.{Instr}
@@ -24,15 +24,13 @@ use Rattle.hm_text16_codes.proofs.Rows as narrow_laws
 use Rattle.hm_text16_rows.specs.Rows as narrow_rows
 use Rattle.hm_text16_rows.specs.Targets as narrow_targets
 use Rattle.hm_text32_codes.proofs.Rows as wide_laws
+use Rattle.hm_text32_codes.proofs.Immediates.{word_small}
 use Rattle.hm_text32_rows.specs.Rows as wide_rows
 use Rattle.hm_text32_rows.specs.Targets as wide_targets
 use Rattle.hm_text.specs.Labels.{label_where}
 use Rattle.hm_text.specs.Tables.{AreOfRow, HasTokens, IsRowOf, has_label, has_label_by, label_of, printed_by, target, target_by}
 
 -- A TARGET where there is a label
-word_below : (n : ℕ) → n % 2 ^ 32 < 2 ^ 32
-word_below n = omega arith
-
 given_narrow : (r : NarrowRow) (pc : ℕ) → IsGiven (narrow_rows.has_label r) (narrow_targets.target r pc)
 given_narrow (narrow.S14 i) pc = omega arith
 given_narrow (narrow.S24 i) pc = omega arith
@@ -41,14 +39,14 @@ given_narrow (narrow.S25 (s25.Always i)) pc = omega arith
 given_narrow r pc = tt
 
 given_loop : (i : T23) (pc : ℕ) → IsGiven (wide_rows.has_label_loop i) (wide_targets.loop_target i pc)
-given_loop (t23.Wls i) pc = word_below _
-given_loop (t23.Wlstp i) pc = word_below _
-given_loop (t23.End i) pc = word_below _
+given_loop (t23.Wls i) pc = word_small _
+given_loop (t23.Wlstp i) pc = word_small _
+given_loop (t23.End i) pc = word_small _
 given_loop i pc = tt
 
 given_wide : (r : WideRow) (pc : ℕ) → IsGiven (wide_rows.has_label r) (wide_targets.target r pc)
-given_wide (wide.T16 (t16.Conditional i)) pc = word_below _
-given_wide (wide.T16 (t16.Always i)) pc = word_below _
+given_wide (wide.T16 (t16.Conditional i)) pc = word_small _
+given_wide (wide.T16 (t16.Always i)) pc = word_small _
 given_wide (wide.T23 i) pc = given_loop i pc
 given_wide r pc = tt
 

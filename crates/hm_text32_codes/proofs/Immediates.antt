@@ -17,7 +17,7 @@ expanded x = (expand_imm_c x false).result
 repeats_small : (b k : ℕ) → b < 256 → b * repeats k < 2 ^ 32
 repeats_small b k lt = grind (arith, nat_tests)
 
-word_small : (x : ℕ) → x % 2 ^ 32 < 2 ^ 32
+pub word_small : (x : ℕ) → x % 2 ^ 32 < 2 ^ 32
 word_small x = omega arith
 
 pub expanded_small : (x : ℕ) → expanded x < 2 ^ 32

@@ -2,7 +2,6 @@ pub mod Words
 pub mod Printed
 pub mod Tails
 pub mod Registers
-pub mod Fits
 pub mod Braces
 pub mod Shown
 pub mod Branches

@@ -1,11 +1,11 @@
-use Rattle.std.proofs.Common.{◌≡◌, ◌||◌, ◌/◌, ◌%◌, ◌^◌, ℕ, Bool, true, false, nat_eq, arith, ap, ◌∙◌, sym, refl, List, [], ◌∷◌, ◌⊎◌, inl, inr}
+use Rattle.std.proofs.Common.{◌≡◌, ◌||◌, ◌/◌, ◌%◌, ◌^◌, ℕ, Bool, true, false, nat_eq, arith, ap, ◌∙◌, sym, refl, ◌⊎◌, inl, inr}
 use Rattle.std.proofs.lemmas.Bool.Decides.{nat_tests}
 use Rattle.hm_base.specs.Bits.{field}
 use Rattle.hm_isa.specs.declared.Vector.{Vector}
 use Rattle.hm_isa.specs.Code.{vector_code}
-use Rattle.hm_layout.proofs.Bits.{holds, holds_lem, or_cases, either, both_left, both_right}
-use Rattle.hm_layout.proofs.Coded.{Kind, Member}
-use Rattle.hm_layout.proofs.Lengths.{all_kinds}
+use Rattle.hm_layout.proofs.Bits.{holds, holds_lem, or_cases, either}
+use Rattle.hm_layout.proofs.Coded.{Kind}
+use Rattle.hm_layout.proofs.Lengths.{kind_passes}
 use Rattle.hm_codes.proofs.Vectors.{coded_vector}
 use Rattle.hm_decode.proofs.may_be_vector.Goals as goal
 
@@ -13,15 +13,10 @@ use Rattle.hm_decode.proofs.may_be_vector.Goals as goal
 abbrev is_vector_kind : Kind → Bool
 is_vector_kind k = holds 26 2 3 k.bits || holds 0 16 0xe801 k.bits
 
-kind_in : (test : Kind → Bool) (k : Kind) (ks : List Kind) → all_kinds test ks ≡ true → Member k ks → test k ≡ true
-kind_in test k [] e m = absurd m
-kind_in test k (l ∷ ks) e (inl f) = ap test f ∙ both_left _ _ e
-kind_in test k (l ∷ ks) e (inr m) = kind_in test k ks (both_right _ _ e) m
-
 vector_bits : (v : Vector) → (vector_code v / 2 ^ 26 % 2 ^ 2 ≡ 3) ⊎ (vector_code v / 2 ^ 0 % 2 ^ 16 ≡ 0xe801)
 vector_bits v =
     let (k, m, h) = coded_vector.has refl v in
-    let test : is_vector_kind k ≡ true = kind_in is_vector_kind k coded_vector.kinds refl m in
+    let test : is_vector_kind k ≡ true = kind_passes is_vector_kind k coded_vector.kinds refl m in
     either (λ e. inl (holds_lem 26 2 3 k.bits (vector_code v) e h.bits)) (λ e. inr (holds_lem 0 16 0xe801 k.bits (vector_code v) e h.bits)) (or_cases _ _ test)
 
 -- where they are not so, no vector instruction has the code
