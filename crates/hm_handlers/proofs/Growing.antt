@@ -1,7 +1,7 @@
 -- Which bytes an instruction that is no vector row taints.
 use Rattle.std.proofs.Common.{◌≡◌, ◌⊎◌, ℕ, zero, suc, ◌+◌, ◌-◌, ◌<◌, ◌≤◌, Bool, true, false, cond, not, ◌&&◌, ◌||◌, List, [], ◌∷◌, length, Option, Some, None}
 use Rattle.std.proofs.Common.{Result, Ok, Err, inl, inr, ⊎_elim, refl, sym, ◌∙◌, ap, subst, arith, add-zero}
-use Rattle.std.proofs.lemmas.Bool.{and_parts}
+use Rattle.std.proofs.lemmas.Bool.{and_parts, not-false}
 use Rattle.std.proofs.lemmas.Bool.Decides.{nat_tests}
 use Rattle.hm_base.specs.declared.Stop.{Stop}
 use Rattle.hm_isa.specs.declared.Instr.{Instr}
@@ -86,10 +86,6 @@ module _ (p : ℕ → Bool) (a : ℕ) where
   free_at len (inr (inl e)) h k l = two (subst (λ (n : ℕ). some_byte n p a ≡ false) e h) k (subst (λ (n : ℕ). k < n) e l)
   free_at len (inr (inr e)) h k l = four (subst (λ (n : ℕ). some_byte n p a ≡ false) e h) k (subst (λ (n : ℕ). k < n) e l)
 
-pub not_false : (b : Bool) → not b ≡ false → b ≡ true
-not_false true h = refl
-not_false false h = absurd cc
-
 -- ONE STORE
 -- of a handler, which may
 module _ (frame : ℕ) (bounds : Bounds) where
@@ -102,7 +98,7 @@ module _ (frame : ℕ) (bounds : Bounds) where
   all_allowed len a is lies free k l =
       let bytes : some_byte len (λ b. not (is_allowed bounds frame b)) a ≡ false
       = sym (ap (λ (q : Bool). cond q (some_byte len (λ b. not (is_allowed bounds frame b)) a) (not (sets_pending (device_word a)))) lies) ∙ free in
-      not_false (is_allowed bounds frame (a + k)) (free_at (λ b. not (is_allowed bounds frame b)) a len is bytes k l)
+      not-false (is_allowed bounds frame (a + k)) (free_at (λ b. not (is_allowed bounds frame b)) a len is bytes k l)
 
   store_grows : (how : Access) (len a v : ℕ) (s : Seen) → IsLen len → stop_of x how true len a s ≡ None
       → SeenGrows (Allowed frame bounds) s (after_store true len a v s)

@@ -4,7 +4,7 @@ use Rattle.std.proofs.Common.{length, map, Option, Some, None, Result, Ok, Err, 
 use Rattle.std.proofs.lemmas.List.{length-map}
 use Rattle.std.specs.Prelude.{◌⊎◌, option_map, codes, decimal, bytes_eq, is_some, not, ◌&&◌, ◌||◌}
 use Rattle.std.specs.List.{AllByRecursion, list_all, list_any}
-use Rattle.std.proofs.lemmas.Bool.{eqb-true, eqb-false, ltb-false, or_parts, and_parts, cases_lt, lt-ltb}
+use Rattle.std.proofs.lemmas.Bool.{eqb-true, eqb-false, ltb-false, or_parts, and_parts, cases_lt, lt-ltb, not-false}
 use Rattle.std.proofs.lemmas.Bool.Decides.{nat_tests}
 use borrow.Author.Tests.{leb-true}
 use Rattle.std.proofs.lemmas.List.Splits.{join_with_byte-slice_split}
@@ -35,10 +35,6 @@ use Rattle.hm_kernel_text.proofs.FoundLaws.{IsLeafy, joined, tree_found}
 pub refuse_ok : {A : Type 0} (b : Bool) (kind : KernelKind) (r : Result A KernelKind) (x : A) → cond b (Err kind) r ≡ Ok x → (b ≡ false) × (r ≡ Ok x)
 refuse_ok true kind r x e = absurd cc
 refuse_ok false kind r x e = (refl, e)
-
-not_false : (b : Bool) → not b ≡ false → b ≡ true
-not_false true e = refl
-not_false false e = absurd cc
 
 leb_not : (a b : ℕ) → leb a b ≡ false → b < a
 leb_not a b e = grind (arith, nat_tests)
@@ -261,14 +257,14 @@ set_found k text name t next form e =
     let b = refuse_ok (leb 16 (length k.sets) || ltb 64 (leaves t)) Large _ next a.1 in
     let large = or_parts (leb 16 (length k.sets)) (ltb 64 (leaves t)) b.0 in
     let d = refuse_ok (not (is_there name k.arrays && knows k.arrays t)) Name _ next b.1 in
-    let known = and_parts (is_there name k.arrays) (knows k.arrays t) (not_false _ d.0) in
+    let known = and_parts (is_there name k.arrays) (knows k.arrays t) (not-false _ d.0) in
     let f = refuse_ok (not (in_range (modulus k.element) t)) Range _ next d.1 in
     let g = guard_ok (ltb 8 (tree_need t)) Deep (with_written_set k (record { name = name; expr = t })) next f.1 in
     record {
       set = record { name = name; expr = t };
       is = record {
         target = there_found name k.arrays known.0;
-        over = over_found k.element k.arrays t known.1 (not_false _ f.0);
+        over = over_found k.element k.arrays t known.1 (not-false _ f.0);
         few = ltb-false _ _ large.1;
         shallow = ltb-false _ _ g.0;
       };

@@ -3,7 +3,7 @@ use Rattle.std.proofs.Common.{◌≡◌, ℕ, ◌<◌, ◌≤◌, Bool, true, fa
 use Rattle.std.proofs.Common.{Ok, Err, refl, sym, ap, subst, inl, inr, ◌∙◌, arith}
 use Rattle.std.specs.Prelude.{MatchResult, IfSome, IsOk}
 use Rattle.std.proofs.lemmas.Bool.{cases_Bool, false≢true, ne_eqb, eq-eqb}
-use Rattle.std.proofs.lemmas.List.{append-nil}
+use Rattle.std.proofs.lemmas.List.{append-nil, nil_from_length}
 use Rattle.hm_text_base.specs.Reading.{ReadsSome}
 use Rattle.hm_text_base.proofs.Steps.{some_is, and_then_some, err_is, refused}
 use Rattle.hm_tokens.specs.declared.token.Class.{Class}
@@ -235,12 +235,8 @@ token_shorter (b ∷ bs) x e =
 
 -- ---- as the code reads, of what stands behind the spaces
 
-empty_text : (text : List ℕ) → length text ≡ 0 → text ≡ []
-empty_text [] e = refl
-empty_text (b ∷ bs) e = absurd (omega arith)
-
 none_left : (here rest : List ℕ) → here ≡ skip rest → length here ≡ 0 → skip rest ≡ []
-none_left here rest is e = sym is ∙ empty_text here e
+none_left here rest is e = sym is ∙ nil_from_length here e
 
 some_here : (here rest : List ℕ) → here ≡ skip rest → 0 < length here → 0 < length (skip rest)
 some_here here rest is some = subst (λ (x : List ℕ). 0 < length x) is some

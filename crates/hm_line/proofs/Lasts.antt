@@ -1,5 +1,6 @@
 -- The last token of a text.
 use Rattle.std.proofs.Common.{◌≡◌, ℕ, ◌<◌, List, [], ◌∷◌, length, Option, Some, None, refl, sym, ap, subst, ◌∙◌, arith}
+use Rattle.std.proofs.lemmas.List.{nil_from_length}
 use Rattle.hm_text_base.proofs.Steps.{some_is}
 use Rattle.hm_tokens.specs.Tokens.{Tok, skip, token_at}
 use Rattle.hm_line.specs.Kinds.{kind}
@@ -32,17 +33,13 @@ behind_next rest here after t is e u other f =
 pub no_last : (rest here : List ℕ) → here ≡ skip rest → token_at here ≡ None → (h : List ℕ) → IsLast rest h → ⊥
 no_last rest here is none h last = none_last rest (nothing_next rest (ap token_at (sym is) ∙ none)) h last
 
-empty_text : (text : List ℕ) → length text ≡ 0 → text ≡ []
-empty_text [] e = refl
-empty_text (b ∷ bs) e = absurd (omega arith)
-
 -- the next token is the last one, where nothing is left behind it
 pub last_here : (rest here after : List ℕ) (t : Tok) → here ≡ skip rest → token_at here ≡ Some (t, after) → length (skip after) ≡ 0 → (h : List ℕ)
     → IsLast rest h → here ≡ skip h
 last_here rest here after t is e end h ([], u, other, are, next_is, left) = is ∙ ap skip are
 last_here rest here after t is e end h (v ∷ ts, u, other, are, next_is, left) =
     let same = behind_next rest here after t is e v are.0 are.1 in
-    absurd (none_last are.0 (ended are.0 (ap skip same ∙ empty_text (skip after) end)) h (ts, u, other, are.2, next_is, left))
+    absurd (none_last are.0 (ended are.0 (ap skip same ∙ nil_from_length (skip after) end)) h (ts, u, other, are.2, next_is, left))
 
 -- and else the last one stands behind it
 pub last_behind : (rest here after : List ℕ) (t : Tok) → here ≡ skip rest → token_at here ≡ Some (t, after) → 0 < length (skip after) → (h : List ℕ)

@@ -1,7 +1,7 @@
 -- Rows of lists of registers: how many there are, and the tokens of a whole row.
 use Rattle.std.proofs.Common.{◌≡◌, ℕ, ◌≤◌, Bool, true, false, cond, List, [], ◌∷◌, ◌++◌, length, refl, sym, subst, ◌∙◌, arith}
 use Rattle.std.specs.Prelude.{nat_eq, nat_le, not, count_ones, ◌&&◌, ◌||◌}
-use Rattle.std.proofs.lemmas.Bool.{and_parts}
+use Rattle.std.proofs.lemmas.Bool.{and_parts, not-true}
 use Rattle.hm_isa.specs.declared.wide.T14.{T14}
 use Rattle.hm_isa.specs.declared.wide.WideListName.{WideListName}
 use Rattle.hm_isa.specs.declared.wide.WideListName.TheVariants as wide_list
@@ -12,10 +12,6 @@ use Rattle.hm_text_rows.proofs.Registers.{front_count}
 use Rattle.hm_text32_rows.specs.Rows.{list_start}
 
 -- HOW MANY THERE ARE
-not_true : (b : Bool) → not b ≡ true → b ≡ false
-not_true true e = absurd cc
-not_true false e = refl
-
 one_of_two : (x y : Bool) (j k : ℕ) → (x && y) ≡ false → length (cond x (j ∷ cond y (k ∷ []) []) (cond y (k ∷ []) [])) ≤ 1
 one_of_two true true j k e = absurd cc
 one_of_two true false j k e = omega arith
@@ -27,10 +23,10 @@ and_no true y e = e
 and_no false y e = refl
 
 not_both : (name : WideListName) (list : ℕ) → may_list name list ≡ true → (listed_in list 14 && listed_in list 15) ≡ false
-not_both wide_list.Stmia list e = and_no (listed_in list 14) (listed_in list 15) (not_true (listed_in list 15) e)
-not_both wide_list.Stmdb list e = and_no (listed_in list 14) (listed_in list 15) (not_true (listed_in list 15) e)
-not_both wide_list.Ldmia list e = not_true (listed_in list 14 && listed_in list 15) e
-not_both wide_list.Ldmdb list e = not_true (listed_in list 14 && listed_in list 15) e
+not_both wide_list.Stmia list e = and_no (listed_in list 14) (listed_in list 15) (not-true (listed_in list 15) e)
+not_both wide_list.Stmdb list e = and_no (listed_in list 14) (listed_in list 15) (not-true (listed_in list 15) e)
+not_both wide_list.Ldmia list e = not-true (listed_in list 14 && listed_in list 15) e
+not_both wide_list.Ldmdb list e = not-true (listed_in list 14 && listed_in list 15) e
 
 few_of : (name : WideListName) (w n list : ℕ) → is_wide_list name w n list ≡ true → length (registers_from 16 0 list) ≤ 14
 few_of name w n list e =
@@ -39,7 +35,7 @@ few_of name w n list e =
     let b = and_parts (nat_le 2 (count_ones list) && not (listed_in list 13) && may_list name list) (not (nat_eq n 15)) a.0 in
     let c = and_parts (nat_le 2 (count_ones list) && not (listed_in list 13)) (may_list name list) b.0 in
     let d = and_parts (nat_le 2 (count_ones list)) (not (listed_in list 13)) c.0 in
-    let no_sp = not_true (listed_in list 13) d.1 in
+    let no_sp = not-true (listed_in list 13) d.1 in
     let last : length (registers_from 3 13 list) ≤ 1 = rw no_sp (one_of_two (listed_in list 14) (listed_in list 15) 14 15 (not_both name list c.1)) in
     let front = front_count 13 3 0 list in
     omega (arith, front, last)

@@ -3,7 +3,7 @@ use Rattle.std.proofs.Common.{◌≡◌, ℕ, zero, suc, ◌<◌, ◌≤◌, Boo
 use Rattle.std.proofs.Common.{refl, sym, subst, ap, inl, inr, arith}
 use Rattle.std.specs.Prelude.{◌&&◌, is_none, not, unwrap_or}
 use Rattle.std.specs.List.{list_all}
-use Rattle.std.proofs.lemmas.Bool.{agree_below, agree_below_at, cases_Bool, eqb-true, eqb-false, and_parts, false≢true}
+use Rattle.std.proofs.lemmas.Bool.{agree_below, agree_below_at, cases_Bool, eqb-true, eqb-false, and_parts, false≢true, not-true}
 use Rattle.std.proofs.lemmas.Bool.Decides.{nat_tests}
 use Rattle.std.proofs.lemmas.List.{length-append}
 use Rattle.hm_text_base.specs.Spans.{span}
@@ -68,10 +68,6 @@ abbrev pub is_name : List ℕ → Bool
 is_name [] = false
 is_name (c ∷ cs) = not (is_digit c) && (list_all (is_in classes.Word) (c ∷ cs) && ltb (length cs) 9)
 
-not_true : (b : Bool) → not b ≡ true → b ≡ false
-not_true true e = absurd cc
-not_true false e = refl
-
 pub span_suffix : (suffix : List ℕ) → is_suffix suffix ≡ true → span point suffix ≡ ([], suffix)
 unfolding span
 span_suffix [] e = refl
@@ -83,7 +79,7 @@ span_parts_suffix [] suffix all e = span_suffix suffix e
 span_parts_suffix (c ∷ s) suffix all e =
     let p = and_parts (is_part c) (list_all is_part s) all in
     let n = and_parts (is_in classes.Word c) (not (eqb c point)) p.0 in
-    rw (not_true (eqb c point) n.1, span_parts_suffix s suffix p.1 e) refl
+    rw (not-true (eqb c point) n.1, span_parts_suffix s suffix p.1 e) refl
 
 -- the first word is cut behind its mnemonic
 pub cut : (s suffix : List ℕ) → is_mnemonic s ≡ true → is_suffix suffix ≡ true → span point (s ++ suffix) ≡ (s, suffix)
@@ -119,7 +115,7 @@ first_word_token [] suffix is e = absurd cc
 first_word_token (c ∷ s) suffix is e =
     let p = and_parts (not (is_digit c)) (list_all is_part (c ∷ s) && ltb (length s) 9) is in
     let q = and_parts (list_all is_part (c ∷ s)) (ltb (length s) 9) p.1 in
-    (not_true (is_digit c) p.0, all_words (c ∷ s) suffix q.0 (suffix_words suffix e))
+    (not-true (is_digit c) p.0, all_words (c ∷ s) suffix q.0 (suffix_words suffix e))
 
 pub first_word_short : (s suffix : List ℕ) → is_mnemonic s ≡ true → is_suffix suffix ≡ true → length (s ++ suffix) ≤ 13
 first_word_short [] suffix is e = absurd cc
@@ -133,7 +129,7 @@ pub word_token : (w : List ℕ) → is_name w ≡ true → IsToken (word w)
 word_token [] is = absurd cc
 word_token (c ∷ w) is =
     let p = and_parts (not (is_digit c)) (list_all (is_in classes.Word) (c ∷ w) && ltb (length w) 9) is in
-    (not_true (is_digit c) p.0, (and_parts (list_all (is_in classes.Word) (c ∷ w)) (ltb (length w) 9) p.1).0)
+    (not-true (is_digit c) p.0, (and_parts (list_all (is_in classes.Word) (c ∷ w)) (ltb (length w) 9) p.1).0)
 
 pub word_short : (w : List ℕ) → is_name w ≡ true → length w ≤ 9
 word_short [] is = absurd cc

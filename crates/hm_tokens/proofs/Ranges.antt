@@ -3,7 +3,7 @@ use Rattle.std.proofs.Common.{◌≡◌, ℕ, zero, suc, ◌+◌, ◌-◌, ◌<�
 use Rattle.std.proofs.Common.{append_assoc, arith}
 use Rattle.std.specs.Prelude.{IfSome, Option, Some, None, ◌&&◌, not}
 use Rattle.std.specs.List.{list_all}
-use Rattle.std.proofs.lemmas.Bool.{and_parts, false≢true}
+use Rattle.std.proofs.lemmas.Bool.{and_parts, false≢true, not-true}
 use Rattle.std.proofs.lemmas.Bool.Decides.{nat_tests}
 use Rattle.std.proofs.lemmas.List.{length-append}
 use Rattle.hm_tokens.specs.declared.marks.Mark.TheVariants as marks
@@ -14,16 +14,12 @@ use Rattle.hm_tokens.specs.Ranges.{is_inside, is_rising, last_register, normal, 
 abbrev pub has_no_ranges : List Tok → Bool
 has_no_ranges ts = list_all (λ t. not (is_the_mark marks.Minus t)) ts
 
-not_true : (b : Bool) → not b ≡ true → b ≡ false
-not_true true e = absurd cc
-not_true false e = refl
-
 no_last : (ts : List Tok) → has_no_ranges ts ≡ true → last_register ts ≡ None
 no_last [] e = refl
 no_last (t ∷ []) e = refl
 no_last (t ∷ u ∷ ts) e =
     let p = and_parts (not (is_the_mark marks.Minus t)) (has_no_ranges (u ∷ ts)) e in
-    rw (not_true (is_the_mark marks.Minus t) p.0) refl
+    rw (not-true (is_the_mark marks.Minus t) p.0) refl
 
 no_rising : (first : Option ℕ) → is_rising first None ≡ false
 no_rising (Some k) = refl
