@@ -9,9 +9,9 @@ use Rattle.std.proofs.lemmas.List.Elements.{All-cons, All-nil}
 use Rattle.std.proofs.lemmas.List.Sums.{sum_by-append}
 use Rattle.hm_base.specs.Image.{sram_start}
 use Rattle.hm_base.specs.declared.errors.OutOfMemory.{OutOfMemory}
-use Rattle.hm_sched.specs.Schedule.{IsLetter, Sched, TickLine, older_letter, total, whole_letter, younger_letter}
+use Rattle.hm_sched.specs.Schedule.{IsLetter, Sched, TickLine, older_letter, plain_line, total, whole_letter, younger_letter}
 use Rattle.hm_soak.specs.Lines.{with_lines}
-use Rattle.hm_soak_laws.specs.Schedule.{both, pair_lines, pairs, schedule, twice, wholes}
+use Rattle.hm_soak_laws.specs.Schedule.{both, pair_lines, pairs, schedule, twice}
 
 -- LETTERS
 pub one_whole : All IsLetter (whole_letter ∷ [])
@@ -47,16 +47,16 @@ append_none [] = refl
 append_none (x ∷ xs) = ap (λ (l : List TickLine). x ∷ l) (append_none xs)
 
 -- PAIRS
-pub pair_entered : (p : ℕ) → p % 64 ≡ 0 → pair_lines p ≡ twice 1 ∷ both 1 ∷ wholes 3 ∷ []
+pub pair_entered : (p : ℕ) → p % 64 ≡ 0 → pair_lines p ≡ twice 1 ∷ both 1 ∷ plain_line 3 ∷ []
 pair_entered p e =
-    let t : nat_eq (p % 64) 0 ≡ true = grind (arith, nat_tests) in ap (λ (b : Bool). cond b (twice 1 ∷ both 1 ∷ wholes 3 ∷ []) (twice 1 ∷ both 0 ∷ [])) t
+    let t : nat_eq (p % 64) 0 ≡ true = grind (arith, nat_tests) in ap (λ (b : Bool). cond b (twice 1 ∷ both 1 ∷ plain_line 3 ∷ []) (twice 1 ∷ both 0 ∷ [])) t
 
 pub pair_alone : (p : ℕ) → p % 64 ≢ 0 → pair_lines p ≡ twice 1 ∷ both 0 ∷ []
 pair_alone p e =
-    let t : nat_eq (p % 64) 0 ≡ false = grind (arith, nat_tests) in ap (λ (b : Bool). cond b (twice 1 ∷ both 1 ∷ wholes 3 ∷ []) (twice 1 ∷ both 0 ∷ [])) t
+    let t : nat_eq (p % 64) 0 ≡ false = grind (arith, nat_tests) in ap (λ (b : Bool). cond b (twice 1 ∷ both 1 ∷ plain_line 3 ∷ []) (twice 1 ∷ both 0 ∷ [])) t
 
-either_few : (b : Bool) → total (cond b (twice 1 ∷ both 1 ∷ wholes 3 ∷ []) (twice 1 ∷ both 0 ∷ [])) ≤ 5
-either_few true = let e : total (twice 1 ∷ both 1 ∷ wholes 3 ∷ []) ≡ 5 = refl in omega arith
+either_few : (b : Bool) → total (cond b (twice 1 ∷ both 1 ∷ plain_line 3 ∷ []) (twice 1 ∷ both 0 ∷ [])) ≤ 5
+either_few true = let e : total (twice 1 ∷ both 1 ∷ plain_line 3 ∷ []) ≡ 5 = refl in omega arith
 either_few false = let e : total (twice 1 ∷ both 0 ∷ []) ≡ 2 = refl in omega arith
 
 pub pair_few : (p : ℕ) → total (pair_lines p) ≤ 5
@@ -103,11 +103,11 @@ paired_next old n new newer h e =
 -- THE WHOLE, behind no lines
 pub all_lines : (a b c d e : Sched)
     → a ≡ record { format = 1; entries = true; lo = sram_start; hi = sram_start; floor = 0x2000f000; process = 0x2000f000; lines = [] }
-    → b ≡ with_lines (wholes 16 ∷ []) a → c ≡ with_lines (pairs 4095 1) b
-    → d ≡ with_lines (twice 2 ∷ []) c → e ≡ with_lines (wholes 1 ∷ []) d → e ≡ schedule
+    → b ≡ with_lines (plain_line 16 ∷ []) a → c ≡ with_lines (pairs 4095 1) b
+    → d ≡ with_lines (twice 2 ∷ []) c → e ≡ with_lines (plain_line 1 ∷ []) d → e ≡ schedule
 unfolding schedule
 all_lines a b c d e h i j k l =
-    let back = with_more (twice 2 ∷ []) (wholes 1 ∷ []) c d e k l in
-    let middle = with_more (pairs 4095 1) (twice 2 ∷ wholes 1 ∷ []) b c e j back in
-    with_more (wholes 16 ∷ []) (pairs 4095 1 ++ (twice 2 ∷ wholes 1 ∷ [])) a b e i middle
-    ∙ ap (with_lines (wholes 16 ∷ (pairs 4095 1 ++ (twice 2 ∷ wholes 1 ∷ [])))) h
+    let back = with_more (twice 2 ∷ []) (plain_line 1 ∷ []) c d e k l in
+    let middle = with_more (pairs 4095 1) (twice 2 ∷ plain_line 1 ∷ []) b c e j back in
+    with_more (plain_line 16 ∷ []) (pairs 4095 1 ++ (twice 2 ∷ plain_line 1 ∷ [])) a b e i middle
+    ∙ ap (with_lines (plain_line 16 ∷ (pairs 4095 1 ++ (twice 2 ∷ plain_line 1 ∷ [])))) h

@@ -2,9 +2,9 @@
 
 ghost use Rattle.std.specs.Prelude.{◌≡◌, ◌+◌, ◌<◌, ◌≤◌, [], ◌∷◌, length, IfOk};
 ghost use Rattle.std.specs.List.{All};
-ghost use Rattle.hm_sched.specs.Schedule.{IsLetter, TickLine, low_irq, most_ticks, total};
+ghost use Rattle.hm_sched.specs.Schedule.{IsLetter, TickLine, low_irq, most_ticks, plain_line, total};
 ghost use Rattle.hm_soak.specs.Lines.{with_lines};
-ghost use Rattle.hm_soak_laws.specs.Schedule.{both, in_order_schedule, pair_lines, pairs, schedule, twice, wholes};
+ghost use Rattle.hm_soak_laws.specs.Schedule.{both, in_order_schedule, pair_lines, pairs, schedule, twice};
 
 use crate::code::OPERATIONS;
 use hm_base::{OutOfMemory, SRAM_START};
@@ -37,7 +37,7 @@ fn add(lines: &mut Schedule, count: u32, letters: &[u8], irq: u32) -> Result<(),
 fn add_wholes(lines: &mut Schedule, count: u32) -> Result<(), OutOfMemory>
     requires some { 1 ≤ count }
     requires room { total lines.old.lines + count ≤ most_ticks }
-    ensures added { IfOk result (λ _. lines.new ≡ with_lines (wholes count ∷ []) lines.old) }
+    ensures added { IfOk result (λ _. lines.new ≡ with_lines (plain_line count ∷ []) lines.old) }
 {
     add(lines, count, b"W", 0)
 }

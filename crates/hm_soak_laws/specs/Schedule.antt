@@ -1,12 +1,8 @@
 -- The schedule of a soak.
 use Rattle.std.specs.Prelude.{ℕ, zero, suc, ◌+◌, ◌%◌, true, nat_eq, if◌then◌else◌, List, [], ◌∷◌, ◌++◌}
 use Rattle.hm_base.specs.Image.{sram_start}
-use Rattle.hm_sched.specs.Schedule.{Sched, TickLine, low_irq, no_irq, older_letter, plain, whole_letter, younger_letter}
+use Rattle.hm_sched.specs.Schedule.{Sched, TickLine, low_irq, no_irq, older_letter, plain, plain_line, younger_letter}
 use Rattle.hm_soak_laws.specs.Soak.{length_in_order}
-
--- so many ticks of one whole instruction each
-abbrev pub wholes : ℕ → TickLine
-wholes n = record { count = n; letters = whole_letter ∷ []; irq = no_irq }
 
 -- so many ticks of two steps of the older
 abbrev pub twice : ℕ → TickLine
@@ -18,7 +14,7 @@ both irq = record { count = 1; letters = older_letter ∷ younger_letter ∷ [];
 
 -- the lines of pair p: at every 64th interrupt 0 arrives, and three ticks are the handler's
 abbrev pub pair_lines : ℕ → List TickLine
-pair_lines p = if nat_eq (p % 64) 0 then twice 1 ∷ both 1 ∷ wholes 3 ∷ [] else twice 1 ∷ both 0 ∷ []
+pair_lines p = if nat_eq (p % 64) 0 then twice 1 ∷ both 1 ∷ plain_line 3 ∷ [] else twice 1 ∷ both 0 ∷ []
 
 -- those of n pairs, from p on
 unfoldable pub pairs : ℕ → ℕ → List TickLine
@@ -34,7 +30,7 @@ schedule = record {
   hi = sram_start;
   floor = 0x2000f000;
   process = 0x2000f000;
-  lines = wholes 16 ∷ (pairs 4095 1 ++ (twice 2 ∷ wholes 1 ∷ []));
+  lines = plain_line 16 ∷ (pairs 4095 1 ++ (twice 2 ∷ plain_line 1 ∷ []));
 }
 
 -- and the one that it is compared with: all its instructions in order
