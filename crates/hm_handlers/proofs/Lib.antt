@@ -20,3 +20,4 @@ pub mod Entering
 pub mod Leaving
 pub mod Soundness
 pub mod TickCounts
+pub mod Ends

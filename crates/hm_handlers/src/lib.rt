@@ -7,14 +7,15 @@ ghost use Rattle.hm_base.specs.Image.{Segment};
 ghost use Rattle.hm_codes.specs.Listing.{Listing};
 ghost use Rattle.hm_exc.specs.Entry.{CanEnter, entry_refusal};
 ghost use Rattle.hm_order.specs.InFlight.{InFlight};
-ghost use Rattle.hm_handlers.specs.Ends.{GoesOn};
+ghost use Rattle.hm_handlers.specs.Ends.{GoesOn, HasEnded};
 ghost use Rattle.hm_in_order.specs.Readings.{ShownInOrder};
 ghost use Rattle.hm_run.specs.Headline.{Headline, Riders};
+ghost use Rattle.hm_run.specs.declared.Outcome.{Outcome};
 ghost use Rattle.hm_run.specs.declared.Outcome.TheVariants.{Halted};
 ghost use Rattle.hm_run.specs.declared.Reason.{Reason};
 ghost use Rattle.hm_run.specs.Report.{memory_text, report_text};
 ghost use Rattle.hm_run.specs.Timed.{bounds_of};
-ghost use Rattle.hm_sched.specs.Schedule.{Sched, TickLine};
+ghost use Rattle.hm_sched.specs.Schedule.{Sched, TickLine, ticks_of};
 ghost use Rattle.hm_state.specs.State.{regs_of};
 ghost use Rattle.hm_whole.specs.Whole.{seen_in};
 ghost use Rattle.hm_window.specs.Positions.{may_end};
@@ -71,6 +72,15 @@ pub fn halts_alike()
 pub fn without_entries()
     ensures none { (listing : Listing) (image : List Segment) (s : Sched) (t : ℕ) → s.entries ≡ false → let x = run listing image s t in
         (x.machine.acts ≡ []) × (x.entries ≡ []) }
+{}
+
+/// A run ends with its last tick at the latest, and an ended run stays as it is, however many ticks it is given.
+pub fn runs_end()
+    ensures ends { (listing : Listing) (image : List Segment) (s : Sched) → HasEnded (run_out listing image s).outcome }
+    ensures stays { (listing : Listing) (image : List Segment) (s : Sched) (o : Outcome) (t u : ℕ) → t ≤ u → (run listing image s t).outcome ≡ Some o
+        → run listing image s u ≡ run listing image s t }
+    ensures past { (listing : Listing) (image : List Segment) (s : Sched) (t : ℕ) → length (ticks_of s.lines) ≤ t
+        → run listing image s t ≡ run_out listing image s }
 {}
 
 /// What an entry and a return need to know holds always: who accesses the memory, priorities of three bits, the exception number, that a handler uses

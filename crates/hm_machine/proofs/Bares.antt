@@ -14,7 +14,7 @@ use Rattle.hm_handlers.proofs.Soundness.{start_sound}
 use Rattle.hm_handlers.specs.Nested.{Nested, around_under}
 use Rattle.hm_handlers.specs.Runs.{Run, begin, tick, tick_of}
 use Rattle.hm_handlers.specs.Sound.{IsSound}
-use Rattle.hm_plain.proofs.Ends.{all_ended, run_past}
+use Rattle.hm_handlers.proofs.Ends.{all_ended, run_past}
 use Rattle.hm_machine.specs.Bares.{IsBare, ShowsGiven}
 use Rattle.hm_machine.specs.Machines.{GoesOn, StandsIn, left_at, left_in}
 use Rattle.hm_machine.specs.declared.cursor.Cursor.{Cursor}

@@ -19,7 +19,7 @@ use Rattle.hm_handlers.specs.Runs.{Run, begin, closed, run}
 use Rattle.hm_handlers.specs.Sound.{IsSound}
 use Rattle.hm_handlers.proofs.TickCounts.{closed_entries}
 use Rattle.hm_machine.proofs.Runs.{Comes}
-use Rattle.hm_plain.proofs.Ends.{closed_out}
+use Rattle.hm_handlers.proofs.Ends.{closed_out}
 use Rattle.hm_sched.specs.Schedule.{TickLine, Sched, IsLine, most_ticks, ticks_of}
 use Rattle.hm_state.proofs.Started.{started}
 use Rattle.hm_state.specs.Start.{reset_pc, reset_sp, start_under}

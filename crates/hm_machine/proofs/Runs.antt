@@ -8,7 +8,7 @@ use Rattle.hm_handlers.specs.Sound.{IsSound}
 use Rattle.hm_handlers.specs.Runs.{Pointers, Run, closed, next, tick_of}
 use Rattle.hm_machine.specs.Ticked.{entered_in, Came}
 use Rattle.hm_machine.specs.Shown.{run_with}
-use Rattle.hm_plain.proofs.Ends.{closed_ended, closed_on, closed_out}
+use Rattle.hm_handlers.proofs.Ends.{closed_ended, closed_on, closed_out}
 use Rattle.hm_run.specs.declared.Outcome.{Outcome}
 use Rattle.hm_run.specs.declared.Outcome.TheVariants as outcome
 use Rattle.hm_sched.specs.Schedule.{TickLine, Sched}

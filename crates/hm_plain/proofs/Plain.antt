@@ -4,6 +4,7 @@ use Rattle.std.proofs.Common.{◌∷◌, drop, length, map, Option, Some, None, 
 use Rattle.hm_base.specs.Image.{Segment}
 use Rattle.hm_beat.specs.Laws.{NoTaint}
 use Rattle.hm_codes.specs.Listing.{Listing}
+use Rattle.hm_handlers.proofs.Ends.{next_ended}
 use Rattle.hm_handlers.proofs.Quiet.{ends_alone, quiet, run_still, stays_in_order}
 use Rattle.hm_handlers.specs.Nested.{NestedStep, at_step, letters, with_acts}
 use Rattle.hm_handlers.specs.Runs.{Run, begin, closed, ended, enters, next, picks, run, run_out, shown, shown_out, stacked_of}
@@ -20,7 +21,6 @@ use Rattle.hm_mem.specs.Memory.{Around, thread_under}
 use Rattle.hm_order.specs.Beats.{then}
 use Rattle.hm_order.specs.Machine.{Config}
 use Rattle.hm_order.specs.Position.{Holds}
-use Rattle.hm_plain.proofs.Ends.{next_ended}
 use Rattle.hm_plain.specs.Orders.{plain_end, plain_ticks}
 use Rattle.hm_run.specs.declared.Outcome.{Outcome}
 use Rattle.hm_run.specs.declared.Outcome.TheVariants as outcome

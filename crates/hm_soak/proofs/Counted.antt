@@ -7,7 +7,7 @@ use Rattle.hm_codes.proofs.Exists.{exists}
 use Rattle.hm_codes.specs.Listing.{IsListing, Listing}
 use Rattle.hm_handlers.proofs.TickCounts.{closed_ticks}
 use Rattle.hm_handlers.specs.Runs.{Run, begin, run}
-use Rattle.hm_plain.proofs.Ends.{closed_on}
+use Rattle.hm_handlers.proofs.Ends.{closed_on}
 use Rattle.hm_machine.proofs.Ticks.{shows_end, shows_past}
 use Rattle.hm_machine.specs.Shown.{Shown, Shows, fixed_of, timed_of}
 use Rattle.hm_order.proofs.Results.{decide}

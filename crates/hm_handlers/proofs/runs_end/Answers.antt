@@ -1,5 +1,5 @@
-use Rattle.hm_plain.proofs.Ends.{all_ended, ended_stays, run_past}
-use Rattle.hm_plain.proofs.runs_end.Goals as goal
+use Rattle.hm_handlers.proofs.Ends.{all_ended, ended_stays, run_past}
+use Rattle.hm_handlers.proofs.runs_end.Goals as goal
 
 pub returns : goal.returns
 returns c = record {

@@ -1,12 +1,11 @@
 -- A run to the end of its ticks, and beyond.
 use Rattle.std.proofs.Common.{◌≡◌, ℕ, zero, suc, ◌+◌, ◌-◌, ◌≤◌, ◌<◌, arith, ap, refl, sym, ◌∙◌, subst, List, [], ◌∷◌, drop, length, Option, Some, None}
-use Rattle.std.proofs.Common.{add-zero}
-use Rattle.std.proofs.Common.{add-suc}
+use Rattle.std.proofs.Common.{add-suc, add-zero}
 use Rattle.std.proofs.lemmas.List.{length-drop, nil_from_length}
 use Rattle.hm_base.specs.Image.{Segment}
 use Rattle.hm_codes.specs.Listing.{Listing}
 use Rattle.hm_handlers.specs.Runs.{Run, begin, closed, next, run, run_out, tick_of}
-use Rattle.hm_plain.specs.Ends.{HasEnded}
+use Rattle.hm_handlers.specs.Ends.{HasEnded}
 use Rattle.hm_run.specs.declared.Outcome.{Outcome}
 use Rattle.hm_run.specs.declared.Outcome.TheVariants as outcome
 use Rattle.hm_run.specs.Timed.{or_out}
