@@ -7,6 +7,7 @@ use Rattle.std.specs.List.{AllByRecursion}
 use Rattle.std.proofs.lemmas.Bool.{and_from, and_parts, cases_Bool, le-leb, leb-true, lt-leb, lt-ltb, ltb-true}
 use Rattle.std.proofs.lemmas.List.Elements.{All-cons, All-head, All-nil, All-tail, All-weaker}
 use Rattle.hm_base.specs.Image.{Before, IsApart, IsImage, IsPlaced, Segment, covers, flash_size, sram_size, sram_start}
+use Rattle.hm_text_base.proofs.Steps.{some_is, test_some}
 use Rattle.hm_ihex.specs.Cells.{Cells, first_cells, is_free, no_cells, put_in, with_data}
 use Rattle.hm_ihex.specs.HexFile.{AreApart, HasByte}
 use Rattle.hm_ihex.proofs.Filled.{length_no_cells, put_none}
@@ -62,13 +63,6 @@ put_free (b ∷ bs) k cells free =
     let rest = put_free bs (k + 1) next later in
     (rest.0, put_step k b bs cells ∙ ap (λ (t : Bool). cond t (put_in (k + 1) bs next) None) test ∙ rest.1)
 
-passed : (t : Bool) (o : Option (List (Option ℕ))) (new : List (Option ℕ)) → cond t o None ≡ Some new → (t ≡ true) × (o ≡ Some new)
-passed true o new e = (refl, e)
-passed false o new e = absurd cc
-
-some_is : (x y : List (Option ℕ)) → Some x ≡ Some y → x ≡ y
-some_is x y e = cc
-
 order : (j k : ℕ) → k ≤ j → (j ≡ k) ⊎ (k < j)
 order j k le = grind arith
 
@@ -87,7 +81,7 @@ put_told [] k cells new e =
     )
 put_told (b ∷ bs) k cells new e =
     let next = set cells k (Some b) in
-    let p = passed (is_free k cells) (put_in (k + 1) bs next) new (sym (put_step k b bs cells) ∙ e) in
+    let p = test_some (is_free k cells) (put_in (k + 1) bs next) new (sym (put_step k b bs cells) ∙ e) in
     let here = cell_free k cells p.0 in
     let ih = put_told bs (k + 1) next new p.1 in
     let wrote = ih.1 in

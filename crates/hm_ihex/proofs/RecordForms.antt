@@ -5,6 +5,7 @@ use Rattle.std.specs.Prelude.{◌&&◌, option_and_then}
 use Rattle.std.proofs.lemmas.Bool.{and_parts, cases_Bool, eqb-true, eq-eqb, leb-true, le-leb}
 use Rattle.std.proofs.lemmas.Bool.Decides.{nat_tests}
 use Rattle.std.proofs.lemmas.List.{drop_all, drop_more, nil_from_length, take-append-drop}
+use Rattle.hm_text_base.proofs.Steps.{and_then_some, test_some}
 use Rattle.hm_ihex.specs.HexFile.{AreDigits, IsDigit, IsRecord, IsRecordLine, Says}
 use Rattle.hm_ihex.specs.Records.{Record, byte_in, bytes_in, data_at, digit_in, end, line_in, new_base, pair_of, record_in, record_of, start, sum_of}
 use Rattle.hm_ihex.proofs.Again.{bytes_nil, bytes_next, record_is}
@@ -94,10 +95,6 @@ chosen : (t : Bool) (r said : Record) → cond t (Some r) None ≡ Some said →
 chosen true r said e = (refl, cc)
 chosen false r said e = absurd cc
 
-passed : (t : Bool) (o : Option Record) (said : Record) → cond t o None ≡ Some said → (t ≡ true) × (o ≡ Some said)
-passed true o said e = (refl, e)
-passed false o said e = absurd cc
-
 abbrev Told : ℕ → ℕ → List ℕ → Record → Type 0
 Told kind offset content said = record_of kind offset content ≡ Some said → Says kind offset content said
 
@@ -172,7 +169,7 @@ record_told (len ∷ high ∷ low ∷ []) said e = absurd cc
 record_told (len ∷ high ∷ low ∷ kind ∷ rest) said e =
     let counted = eqb (length rest) (len + 1) in
     let summed = eqb (sum_of (len ∷ high ∷ low ∷ kind ∷ rest) % 256) 0 in
-    let p = passed (counted && summed) (record_of kind (256 * high + low) (take len rest)) said e in
+    let p = test_some (counted && summed) (record_of kind (256 * high + low) (take len rest)) said e in
     let both = and_parts counted summed p.0 in
     let count : length rest ≡ len + 1 = eqb-true (length rest) (len + 1) both.0 in
     let taken : length (take len rest) ≡ len = length_taken len rest (omega arith) in
@@ -190,13 +187,9 @@ record_told (len ∷ high ∷ low ∷ kind ∷ rest) said e =
 pub line_read : (line : List ℕ) (said : Record) → IsRecordLine line said → line_in line ≡ Some said
 line_read line said h = ap line_in h.2 ∙ ap (option_and_then record_in) (bytes_read h.0 h.1 h.3) ∙ record_read h.1 said h.4
 
-both : (o : Option (List ℕ)) (said : Record) → option_and_then record_in o ≡ Some said → (bytes : List ℕ) × (o ≡ Some bytes) × (record_in bytes ≡ Some said)
-both None said e = absurd cc
-both (Some bytes) said e = (bytes, refl, e)
-
 pub line_told : (line : List ℕ) (said : Record) → line_in line ≡ Some said → IsRecordLine line said
 line_told [] said e = absurd cc
 line_told (c ∷ digits) said e =
-    let p = passed (eqb c 58) (option_and_then record_in (bytes_in digits)) said e in
-    let b = both (bytes_in digits) said p.1 in
+    let p = test_some (eqb c 58) (option_and_then record_in (bytes_in digits)) said e in
+    let b = and_then_some (bytes_in digits) record_in said p.1 in
     (digits, b.0, ap (λ (x : ℕ). x ∷ digits) (eqb-true c 58 p.0), bytes_told digits b.0 b.1, record_told b.0 said b.2)
