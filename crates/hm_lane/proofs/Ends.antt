@@ -1,6 +1,7 @@
 -- The predicate word by word, and what the end of a beat leaves.
 use Rattle.std.proofs.Common.{◌≡◌, ◌≢◌, ℕ, ◌+◌, ◌*◌, ◌-◌, ◌%◌, ◌<◌, Bool, true, false, ◌&&◌, ◌||◌, not, eqb, ltb, cond, List, [], ◌∷◌, ◌++◌, arith, refl, ap}
 use Rattle.std.proofs.Common.{sym, ◌∙◌, subst}
+use Rattle.std.proofs.lemmas.Bool.{or_parts}
 use Rattle.hm_base.specs.Bits.{field}
 use Rattle.hm_base.specs.Place.{IsPlace, same_place, has_place}
 use Rattle.hm_base.specs.declared.Place.{Place}
@@ -40,10 +41,6 @@ predicate_merges r a b c d x y z w =
     ap (λ ps. merged ps (bytes_of a ++ bytes_of b ++ bytes_of c ++ bytes_of d) (bytes_of x ++ bytes_of y ++ bytes_of z ++ bytes_of w)) (predicate_words r)
 
 -- WHAT STAYS
-neither : (a b : Bool) → (a || b) ≡ false → (a ≡ false) × (b ≡ false)
-neither true b e = cc
-neither false b e = (refl, e)
-
 differs : (p q : Place) → same_place p q ≡ false → q ≢ p
 differs p q e same = let t = subst (λ x. same_place p x ≡ true) (sym same) (same_place-refl p) in absurd cc
 
@@ -52,7 +49,7 @@ others_stay : (ws : List Write) (s : Regs) (q : Place) → Each IsPlace (places_
     → value_at q (apply ws s) ≡ value_at q s
 others_stay [] s q p i h = refl
 others_stay (w ∷ ws) s q p i h =
-    let off = neither (same_place w.place q) (has_place (places_of ws) q) h in
+    let off = or_parts (same_place w.place q) (has_place (places_of ws) q) h in
     others_stay ws (with_value w.place w.value s) q p.1 i off.1 ∙ value_at-others w.place w.value s p.0 q (differs w.place q off.0) i
 
 advance_placed : (x y : Bool) (p q : Place) (u v : ℕ) → IsPlace p → IsPlace q
