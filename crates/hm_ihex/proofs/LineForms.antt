@@ -5,7 +5,7 @@ use Rattle.std.specs.List.{AllByRecursion, flat_map}
 use Rattle.std.proofs.Math.Seq.{get_or-append_seam, take-append_seam}
 use Rattle.std.proofs.lemmas.Bool.{cases_Bool, eqb-true, eq-eqb, ne_eqb}
 use Rattle.hm_text_base.specs.Spans.{Lacks, line, lines_of}
-use Rattle.hm_text_base.proofs.LineLaws.{lines_whole}
+use Rattle.hm_text_base.proofs.LineLaws.{front_line, lines_whole}
 use Rattle.hm_ihex.specs.Files.{all_lines, without_return}
 use Rattle.hm_ihex.specs.HexFile.{AreDigits, AreLines, AreRecordLines, IsDigit, IsLineEnd, IsRecordLine}
 use Rattle.hm_ihex.specs.Records.{Record}
@@ -72,11 +72,6 @@ lines_told text =
 
 -- ---- and what text they are read from
 
-line_ahead : (text rest : List ℕ) → Lacks 10 text → lines_of (text ++ 10 ∷ rest) ≡ (text ∷ (lines_of rest).0, (lines_of rest).1)
-unfolding lines_of
-line_ahead [] rest lacks = refl
-line_ahead (b ∷ text) rest lacks = rw (ne_eqb b 10 lacks.0, line_ahead text rest lacks.1) refl
-
 no_end : (text : List ℕ) → Lacks 10 text → lines_of text ≡ ([], text)
 unfolding lines_of
 no_end [] lacks = refl
@@ -101,12 +96,12 @@ IsShown l = (0 < length l) × Shown l
 ended_line : (l mark rest : List ℕ) → IsShown l → IsLineEnd mark → all_lines (lines_of (l ++ (mark ++ rest))) ≡ l ∷ all_lines (lines_of rest)
 ended_line l mark rest h (inl is) =
     ap (λ (m : List ℕ). all_lines (lines_of (l ++ (m ++ rest)))) is
-    ∙ ap all_lines (line_ahead l rest (shown_lacks l h.1)) ∙ more_lines l (lines_of rest)
+    ∙ ap all_lines (front_line l rest (shown_lacks l h.1)) ∙ more_lines l (lines_of rest)
     ∙ ap (λ (x : List ℕ). x ∷ all_lines (lines_of rest)) (shown_whole l h.1)
 ended_line l mark rest h (inr is) =
     ap (λ (m : List ℕ). all_lines (lines_of (l ++ (m ++ rest)))) is
     ∙ ap (λ (t : List ℕ). all_lines (lines_of t)) (sym (append_assoc l (13 ∷ []) (10 ∷ rest)))
-    ∙ ap all_lines (line_ahead (l ++ 13 ∷ []) rest (lacks_return l (shown_lacks l h.1))) ∙ more_lines (l ++ 13 ∷ []) (lines_of rest)
+    ∙ ap all_lines (front_line (l ++ 13 ∷ []) rest (lacks_return l (shown_lacks l h.1))) ∙ more_lines (l ++ 13 ∷ []) (lines_of rest)
     ∙ ap (λ (x : List ℕ). x ∷ all_lines (lines_of rest)) (return_off l)
 
 pub lines_read : (ls : List (List ℕ)) (text : List ℕ) → AllByRecursion IsShown ls → AreLines ls text → all_lines (lines_of text) ≡ ls

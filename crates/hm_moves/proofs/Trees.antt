@@ -27,7 +27,6 @@ use Rattle.hm_beat.specs.Laws.{NoTaint, WritesTaint}
 use Rattle.hm_beat.proofs.Trees.{one_of}
 use Rattle.hm_beat.proofs.Predicated.{advance_at, holds-append, kept_tested, reach_looked, tested_places, tests_looked, written-append, written_always}
 use Rattle.hm_beat.proofs.Whole.{advance_taints, no_byte}
-use Rattle.hm_beat.proofs.Footprint.{no_tests}
 use Rattle.hm_kinds.specs.Row.{numbers}
 use Rattle.hm_moves.specs.declared.elements.Element.{Element}
 use Rattle.hm_moves.specs.Moves.{Moves, all_bytes_from, asks, back_at, begun, bytes_from, bytes_of_elements, checks_of, element_checks, elements_at}
@@ -95,7 +94,7 @@ reach_moves i x b s = reach_begun b (body_of i x b) s i.predicated ∙ reach_all
 pub tests_moves : (i : Moves) (x : Around) (b : ℕ) (s : State) → tests (moves_tree i x b) s ≡ map At (begun_places i.predicated b s) ++ map At (i.sources b)
 tests_moves i x b s =
     tests_begun b (body_of i x b) s i.predicated
-    ∙ ap (λ xs. map At (begun_places i.predicated b s) ++ xs) (tests_all (i.sources b) _ s ∙ no_tests (map At (i.sources b)))
+    ∙ ap (λ xs. map At (begun_places i.predicated b s) ++ xs) (tests_all (i.sources b) _ s ∙ append-nil (map At (i.sources b)))
 
 -- WHAT IT WRITES
 written_fill : (i : Moves) (j : ℕ) (es : List Element) (ps : List Place) (vs : List Value) → written (fill i j es ps) vs ≡ words_from i j es (numbers vs) ps

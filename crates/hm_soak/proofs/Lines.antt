@@ -4,7 +4,7 @@ use Rattle.std.proofs.Common.{inr}
 use Rattle.std.specs.List.{All}
 use Rattle.std.specs.Prelude.{IfOk, Result, Ok, Err}
 use Rattle.std.proofs.lemmas.Bool.Decides.{nat_tests}
-use Rattle.std.proofs.lemmas.List.{append_assoc}
+use Rattle.std.proofs.lemmas.List.{append-nil, append_assoc}
 use Rattle.std.proofs.lemmas.List.Elements.{All-cons, All-nil}
 use Rattle.std.proofs.lemmas.List.Sums.{sum_by-append}
 use Rattle.hm_base.specs.Image.{sram_start}
@@ -42,10 +42,6 @@ with_last xs ys a b c (Err e) h none = tt
 pub total_more : (xs : List TickLine) (a b : Sched) → b ≡ with_lines xs a → total b.lines ≡ total a.lines + total xs
 total_more xs a b h = ap (λ (s : Sched). total s.lines) h ∙ total_with xs a
 
-append_none : (xs : List TickLine) → xs ++ [] ≡ xs
-append_none [] = refl
-append_none (x ∷ xs) = ap (λ (l : List TickLine). x ∷ l) (append_none xs)
-
 -- PAIRS
 pub pair_entered : (p : ℕ) → p % 64 ≡ 0 → pair_lines p ≡ twice 1 ∷ both 1 ∷ plain_line 3 ∷ []
 pair_entered p e =
@@ -64,7 +60,7 @@ pair_few p = either_few (nat_eq (p % 64) 0)
 
 pairs_more : (n p : ℕ) → pairs (suc n) p ≡ pairs n p ++ pair_lines (p + n)
 unfolding pairs
-pairs_more zero p = let e : p ≡ p + 0 = omega arith in append_none (pair_lines p) ∙ ap pair_lines e
+pairs_more zero p = let e : p ≡ p + 0 = omega arith in append-nil (pair_lines p) ∙ ap pair_lines e
 pairs_more (suc n) p =
     let e : p + 1 + n ≡ p + suc n = omega arith in
     ap (λ (l : List TickLine). pair_lines p ++ l) (pairs_more n (p + 1) ∙ ap (λ (k : ℕ). pairs n (p + 1) ++ pair_lines k) e)
@@ -82,7 +78,7 @@ pub record Paired (old : Sched) (n : ℕ) (new : Sched) : Type 0 where
 pub paired_none : (old : Sched) → Paired old 0 old
 paired_none old = record {
   lines = ap (λ (ls : List TickLine). record old { lines = ls })
-      (sym (append_none old.lines) ∙ ap (λ (l : List TickLine). old.lines ++ l) (sym (pairs_none 1)));
+      (sym (append-nil old.lines) ∙ ap (λ (l : List TickLine). old.lines ++ l) (sym (pairs_none 1)));
   few = omega arith;
 }
 

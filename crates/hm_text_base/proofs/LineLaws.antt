@@ -21,7 +21,7 @@ lines_whole (b ∷ bs) =
       | inr e ↦ rw e (onto_whole b (lines_of bs) ∙ ap (λ (x : List ℕ). b ∷ x) (lines_whole bs))
     ]
 
-front_line : (text rest : List ℕ) → Lacks 10 text → lines_of (text ++ 10 ∷ rest) ≡ (text ∷ (lines_of rest).0, (lines_of rest).1)
+pub front_line : (text rest : List ℕ) → Lacks 10 text → lines_of (text ++ 10 ∷ rest) ≡ (text ∷ (lines_of rest).0, (lines_of rest).1)
 unfolding lines_of
 front_line [] rest lacks = refl
 front_line (b ∷ text) rest lacks = rw (ne_eqb b 10 lacks.0, front_line text rest lacks.1) refl

@@ -1,15 +1,10 @@
-use Rattle.std.proofs.Common.{◌≡◌, ℕ, ◌+◌, ◌*◌, ◌/◌, ◌%◌, ◌^◌, ◌<◌, Bool, true, false, [], ◌∷◌, arith, sym, ◌∙◌}
+use Rattle.std.proofs.Common.{◌≡◌, ℕ, ◌/◌, ◌%◌, ◌^◌, ◌<◌, Bool, true, false, [], ◌∷◌, arith, sym, ◌∙◌}
 use Rattle.hm_isa.specs.declared.vectors.NarrowingName.{NarrowingName}
 use Rattle.hm_lane.specs.declared.lanes.Size.TheVariants.{Byte, Half}
 use Rattle.hm_lane.specs.Lanes.{bytes_of}
+use Rattle.hm_lane_fns.proofs.Parts.{high, low}
 use Rattle.hm_forms_elements.specs.Forms.{narrowing_outside, narrowing_tests}
 use Rattle.hm_forms_elements.proofs.narrowing.narrowing_tests.Goals as goal
-
-low : (x : ℕ) → x % 65536 ≡ x % 256 + 256 * (x / 256 % 256)
-low x = omega arith
-
-high : (x : ℕ) → x < 2 ^ 32 → x / 65536 ≡ x / 65536 % 256 + 256 * (x / 16777216 % 256)
-high x h = omega arith
 
 -- the tests of the two halves of a word are those of its bytes
 lower : (f : NarrowingName) (x : ℕ) (p q : Bool) → x < 2 ^ 32 → p ≡ narrowing_outside f Half Byte (x % 65536) → q ≡ narrowing_outside f Half Byte (x / 65536)
