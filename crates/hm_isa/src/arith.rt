@@ -68,7 +68,7 @@ pub enum OperationName {
     Udiv,
 }
 
-/// `mul`, `sdiv`, `udiv rd,rn,rm`.
+/// `mul`, `sdiv`, `udiv rd,rn,rm`. T11: DDI0553, "MUL", "SDIV" and "UDIV".
 #[derive(Clone, Copy)]
 pub struct Operation {
     pub name: OperationName,
@@ -78,14 +78,14 @@ pub struct Operation {
     pub ghost rules: { IsTrue (is_operation n.value d.value m.value) },
 }
 
-/// Whether a product is added or taken off.
+/// Whether a product of the row T11 is added or taken off.
 #[derive(Clone, Copy)]
 pub enum AccumulateName {
     Mla,
     Mls,
 }
 
-/// `mla`, `mls rd,rn,rm,ra`.
+/// `mla`, `mls rd,rn,rm,ra`. T11: DDI0553, "MLA" and "MLS".
 #[derive(Clone, Copy)]
 pub struct Accumulate {
     pub name: AccumulateName,
@@ -97,7 +97,7 @@ pub struct Accumulate {
     pub ghost rules: { IsTrue (is_accumulated n.value a.value d.value m.value) },
 }
 
-/// A product of 64 bits, alone or added.
+/// A product of 64 bits of the row T11, alone or added.
 #[derive(Clone, Copy)]
 pub enum LongProductName {
     Smull,
@@ -106,7 +106,7 @@ pub enum LongProductName {
     Umlal,
 }
 
-/// `smull`, `umull`, `smlal`, `umlal rl,rh,rn,rm`.
+/// `smull`, `umull`, `smlal`, `umlal rl,rh,rn,rm`. T11: DDI0553, "SMULL", "UMULL", "SMLAL" and "UMLAL".
 #[derive(Clone, Copy)]
 pub struct LongProduct {
     pub name: LongProductName,

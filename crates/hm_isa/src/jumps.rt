@@ -4,7 +4,8 @@ ghost use Rattle.std.specs.Prelude.{◌≢◌};
 
 use crate::fields::{Below, Bit, Register};
 
-/// `beq.w label` and so on under condition `c`. The distance in bytes from the address plus 4 is `s:j2:j1:i6:i11:0`, with sign `s`.
+/// `beq.w label` and so on under condition `c`. The distance in bytes from the address plus 4 is `s:j2:j1:i6:i11:0`, with sign
+/// `s`. T16: DDI0553, "B", encoding T3.
 #[derive(Clone, Copy)]
 pub struct WideConditional {
     pub s: Bit,
@@ -25,7 +26,7 @@ pub enum WideBranchName {
 }
 
 /// `b.w label`, `bl label`. The distance in bytes from the address plus 4 is `s:I1:I2:i10:i11:0`, with sign `s`, where I1 and
-/// I2 are `s`, turned over where `j1` and `j2` are 0.
+/// I2 are `s`, turned over where `j1` and `j2` are 0. T16: DDI0553, "B", encoding T4, and "BL", encoding T1.
 #[derive(Clone, Copy)]
 pub struct WideAlways {
     pub name: WideBranchName,
@@ -63,7 +64,7 @@ pub struct T17 {
     pub ghost not_pc: { m.value ≢ 15 },
 }
 
-/// `dls lr,rn`
+/// `dls lr,rn`. T23: DDI0553, "WLS, DLS, WLSTP, DLSTP".
 #[derive(Clone, Copy)]
 pub struct Dls {
     pub n: Register,
@@ -71,7 +72,7 @@ pub struct Dls {
     pub ghost not_pc: { n.value ≢ 15 },
 }
 
-/// `wls lr,rn,label`, forward by 2v from the address plus 4.
+/// `wls lr,rn,label`, forward by 2v from the address plus 4. T23: DDI0553, "WLS, DLS, WLSTP, DLSTP".
 #[derive(Clone, Copy)]
 pub struct Wls {
     pub n: Register,
@@ -80,7 +81,7 @@ pub struct Wls {
     pub ghost not_pc: { n.value ≢ 15 },
 }
 
-/// `dlstp.8 lr,rn` and so on, for elements of 8, 16, 32 and 64 bits as `z` is 0 to 3.
+/// `dlstp.8 lr,rn` and so on, for elements of 8, 16, 32 and 64 bits as `z` is 0 to 3. T23: DDI0553, "WLS, DLS, WLSTP, DLSTP".
 #[derive(Clone, Copy)]
 pub struct Dlstp {
     pub z: Below<4>,
@@ -89,7 +90,7 @@ pub struct Dlstp {
     pub ghost not_pc: { n.value ≢ 15 },
 }
 
-/// `wlstp.8 lr,rn,label` and so on, forward by 2v from the address plus 4.
+/// `wlstp.8 lr,rn,label` and so on, forward by 2v from the address plus 4. T23: DDI0553, "WLS, DLS, WLSTP, DLSTP".
 #[derive(Clone, Copy)]
 pub struct Wlstp {
     pub z: Below<4>,
@@ -99,7 +100,7 @@ pub struct Wlstp {
     pub ghost not_pc: { n.value ≢ 15 },
 }
 
-/// The operation at the end of a loop.
+/// The operation of the row T23 at the end of a loop.
 #[derive(Clone, Copy)]
 pub enum LoopEndName {
     /// `le lr,label`
@@ -110,7 +111,7 @@ pub enum LoopEndName {
     Le,
 }
 
-/// `le lr,label`, `letp lr,label` and `le label`, backward by 2v from the address plus 4.
+/// `le lr,label`, `letp lr,label` and `le label`, backward by 2v from the address plus 4. T23: DDI0553, "LE, LETP".
 #[derive(Clone, Copy)]
 pub struct LoopEnd {
     pub name: LoopEndName,

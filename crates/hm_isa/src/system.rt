@@ -5,7 +5,7 @@ ghost use Rattle.hm_isa.specs.Rules.{is_system_move};
 
 use crate::fields::{Below, QRegister, Register};
 
-/// A special register that is read.
+/// A special register that the row T18 reads.
 #[derive(Clone, Copy)]
 pub enum ReadName {
     Apsr,
@@ -17,7 +17,7 @@ pub enum ReadName {
     Control,
 }
 
-/// `mrs rd,NAME`.
+/// `mrs rd,NAME`. T18: DDI0553, "MRS".
 #[derive(Clone, Copy)]
 pub struct Mrs {
     pub name: ReadName,
@@ -26,7 +26,7 @@ pub struct Mrs {
     pub ghost not_pc: { d.value ≢ 15 },
 }
 
-/// A special register that is written.
+/// A special register that the row T18 writes.
 #[derive(Clone, Copy)]
 pub enum WrittenName {
     Apsr,
@@ -37,7 +37,7 @@ pub enum WrittenName {
     Control,
 }
 
-/// `msr NAME,rn`.
+/// `msr NAME,rn`. T18: DDI0553, "MSR (register)".
 #[derive(Clone, Copy)]
 pub struct Msr {
     pub name: WrittenName,
@@ -53,7 +53,7 @@ pub enum T18 {
     Write(Msr),
 }
 
-/// A barrier, in the order of the codes.
+/// A barrier of the row T19, in the order of the codes.
 #[derive(Clone, Copy)]
 pub enum BarrierName {
     Dsb,
@@ -61,7 +61,7 @@ pub enum BarrierName {
     Isb,
 }
 
-/// `dsb`, `dmb`, `isb #o`.
+/// `dsb`, `dmb`, `isb #o`. T19: DDI0553, "DSB", "DMB" and "ISB".
 #[derive(Clone, Copy)]
 pub struct Barrier {
     pub name: BarrierName,

@@ -385,7 +385,8 @@ impl V11 {
     }
 }
 
-/// `vshllb`, `vshllt` of 8 bits by less than 8, as `vshllb.s8 qd,qm,#k`; by 0 they are `vmovlb`, `vmovlt`.
+/// `vshllb`, `vshllt` of 8 bits by less than 8, as `vshllb.s8 qd,qm,#k`; by 0 they are `vmovlb`, `vmovlt`. V12: DDI0553, "VSHLL"
+/// and "VMOVL".
 #[derive(Clone, Copy)]
 pub struct LongBytes {
     /// 1 for unsigned elements.
@@ -400,7 +401,8 @@ pub struct LongBytes {
     pub m: QRegister,
 }
 
-/// `vshllb`, `vshllt` of 16 bits by less than 16, as `vshllb.s16 qd,qm,#k`; by 0 they are `vmovlb`, `vmovlt`.
+/// `vshllb`, `vshllt` of 16 bits by less than 16, as `vshllb.s16 qd,qm,#k`; by 0 they are `vmovlb`, `vmovlt`. V12: DDI0553,
+/// "VSHLL" and "VMOVL".
 #[derive(Clone, Copy)]
 pub struct LongHalves {
     /// 1 for unsigned elements.
@@ -415,7 +417,7 @@ pub struct LongHalves {
     pub m: QRegister,
 }
 
-/// `vshllb`, `vshllt` by the size of the elements, as `vshllb.s8 qd,qm,#8`.
+/// `vshllb`, `vshllt` by the size of the elements, as `vshllb.s8 qd,qm,#8`. V12: DDI0553, "VSHLL".
 #[derive(Clone, Copy)]
 pub struct LongFull {
     /// 1 for unsigned elements.
@@ -455,7 +457,8 @@ pub enum OneName {
     Qneg,
 }
 
-/// `vcls`, `vclz`, `vabs`, `vneg`, `vqabs`, `vqneg`, as `vabs.s8 qd,qm`.
+/// `vcls`, `vclz`, `vabs`, `vneg`, `vqabs`, `vqneg`, as `vabs.s8 qd,qm`. V13: DDI0553, "VCLS", "VCLZ", "VABS", "VNEG", "VQABS"
+/// and "VQNEG".
 #[derive(Clone, Copy)]
 pub struct OneElement {
     pub name: OneName,
@@ -467,7 +470,7 @@ pub struct OneElement {
     pub m: QRegister,
 }
 
-/// `vmvn qd,qm`.
+/// `vmvn qd,qm`. V13: DDI0553, "VMVN (register)".
 #[derive(Clone, Copy)]
 pub struct Invert {
     /// The register that gets the result.
@@ -603,7 +606,7 @@ pub enum OffsetsName {
     Down,
 }
 
-/// `vidup`, `vddup`, as `vidup.u8 qd,rn,#2^k`.
+/// `vidup`, `vddup`, as `vidup.u8 qd,rn,#2^k`. V19: DDI0553, "VIDUP, VIWDUP" and "VDDUP, VDWDUP".
 #[derive(Clone, Copy)]
 pub struct Offsets {
     pub name: OffsetsName,
@@ -617,7 +620,7 @@ pub struct Offsets {
     pub k: Below<4>,
 }
 
-/// `viwdup`, `vdwdup`, as `viwdup.u8 qd,rn,rm,#2^k`.
+/// `viwdup`, `vdwdup`, as `viwdup.u8 qd,rn,rm,#2^k`. V19: DDI0553, "VIDUP, VIWDUP" and "VDDUP, VDWDUP".
 #[derive(Clone, Copy)]
 pub struct WrappedOffsets {
     pub name: OffsetsName,
@@ -640,7 +643,7 @@ pub enum V19 {
     Wrapped(WrappedOffsets),
 }
 
-/// `vcmp` and `vpt` of two vectors, as `vcmp.i8 eq,qn,qm`.
+/// `vcmp` and `vpt` of two vectors, as `vcmp.i8 eq,qn,qm`. V20: DDI0553, "VCMP" and "VPT".
 #[derive(Clone, Copy)]
 pub struct CompareVectors {
     /// The mask of `vpt`; 0 for `vcmp`.
@@ -655,7 +658,8 @@ pub struct CompareVectors {
     pub m: QRegister,
 }
 
-/// `vcmp` and `vpt` of a vector and a core register, as `vcmp.i8 eq,qn,rm`, or zero, which is 15 as `m`.
+/// `vcmp` and `vpt` of a vector and a core register, as `vcmp.i8 eq,qn,rm`, or zero, which is 15 as `m`. V20: DDI0553, "VCMP" and
+/// "VPT".
 #[derive(Clone, Copy)]
 pub struct CompareScalar {
     /// The mask of `vpt`; 0 for `vcmp`.
@@ -678,13 +682,13 @@ pub enum V20 {
     Scalar(CompareScalar),
 }
 
-/// `vpst` with the mask `k` of a block, or `vpnot` where it is 0.
+/// `vpst` with the mask `k` of a block, or `vpnot` where it is 0. V21: DDI0553, "VPST" and "VPNOT".
 #[derive(Clone, Copy)]
 pub struct Block {
     pub k: Below<16>,
 }
 
-/// `vpsel qd,qn,qm`.
+/// `vpsel qd,qn,qm`. V21: DDI0553, "VPSEL".
 #[derive(Clone, Copy)]
 pub struct Select {
     /// The register of the first operands.
@@ -695,7 +699,7 @@ pub struct Select {
     pub m: QRegister,
 }
 
-/// `vctp.8 rn`, `vctp.16`, `vctp.32`, `vctp.64`.
+/// `vctp.8 rn`, `vctp.16`, `vctp.32`, `vctp.64`. V21: DDI0553, "VCTP".
 #[derive(Clone, Copy)]
 pub struct Tail {
     /// The size of the elements: 0 to 3 are 8, 16, 32 and 64 bits.
@@ -714,7 +718,7 @@ pub enum V21 {
     Tail(Tail),
 }
 
-/// `vaddv`, as `vaddva.s8 rl,qm`: the elements of a vector, added up.
+/// `vaddv`, as `vaddva.s8 rl,qm`: the elements of a vector, added up. V22: DDI0553, "VADDV".
 #[derive(Clone, Copy)]
 pub struct Sum {
     /// 1 for unsigned elements.
@@ -729,7 +733,7 @@ pub struct Sum {
     pub m: QRegister,
 }
 
-/// `vmladav`, as `vmladava.s8 rl,qn,qm`: products of elements, added up.
+/// `vmladav`, as `vmladava.s8 rl,qn,qm`: products of elements, added up. V22: DDI0553, "VMLADAV".
 #[derive(Clone, Copy)]
 pub struct Dot {
     /// The size of the elements.
@@ -746,7 +750,7 @@ pub struct Dot {
     pub m: QRegister,
 }
 
-/// `vaddlv`, as `vaddlva.s32 rl,rh,qm`: words, added up in 64 bits.
+/// `vaddlv`, as `vaddlva.s32 rl,rh,qm`: words, added up in 64 bits. V22: DDI0553, "VADDLV".
 #[derive(Clone, Copy)]
 pub struct LongSum {
     /// 1 for unsigned elements.
@@ -761,7 +765,7 @@ pub struct LongSum {
     pub m: QRegister,
 }
 
-/// `vmlaldav`, as `vmlaldava.s16 rl,rh,qn,qm`: products, added up in 64 bits.
+/// `vmlaldav`, as `vmlaldava.s16 rl,rh,qn,qm`: products, added up in 64 bits. V22: DDI0553, "VMLALDAV".
 #[derive(Clone, Copy)]
 pub struct LongDot {
     /// 1 for unsigned elements.

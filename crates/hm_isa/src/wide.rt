@@ -6,7 +6,7 @@ ghost use Rattle.hm_isa.specs.Rules.{is_indexed, is_literal, is_offset, is_pair,
 use crate::fields::{Below, Bit, Byte, Register};
 use crate::narrow::AccessName;
 
-/// `strb.w rt,[rn,#i]` and so on.
+/// `strb.w rt,[rn,#i]` and so on. T12: DDI0553, "LDR (immediate)" and its kin.
 #[derive(Clone, Copy)]
 pub struct Offset {
     pub name: AccessName,
@@ -16,7 +16,7 @@ pub struct Offset {
     pub ghost rules: { IsTrue (is_offset name n.value t.value) },
 }
 
-/// `strb.w rt,[rn,#-i]`, `[rn,#i]!`, `[rn],#i` and so on, as p, u and w say.
+/// `strb.w rt,[rn,#-i]`, `[rn,#i]!`, `[rn],#i` and so on, as p, u and w say. T12: DDI0553, "LDR (immediate)" and its kin.
 #[derive(Clone, Copy)]
 pub struct Indexed {
     pub name: AccessName,
@@ -32,7 +32,7 @@ pub struct Indexed {
     pub ghost rules: { IsTrue (is_indexed name n.value t.value p.value u.value w.value) },
 }
 
-/// `strb.w rt,[rn,rm,lsl #i]` and so on.
+/// `strb.w rt,[rn,rm,lsl #i]` and so on. T12: DDI0553, "LDR (register)" and its kin.
 #[derive(Clone, Copy)]
 pub struct Shifted {
     pub name: AccessName,
@@ -43,7 +43,7 @@ pub struct Shifted {
     pub ghost rules: { IsTrue (is_shifted name n.value t.value m.value) },
 }
 
-/// `ldrb.w rt,[pc,#i]` and so on, from pc rounded down to a word.
+/// `ldrb.w rt,[pc,#i]` and so on, from pc rounded down to a word. T12: DDI0553, "LDR (literal)" and its kin.
 #[derive(Clone, Copy)]
 pub struct Literal {
     pub name: AccessName,
