@@ -22,15 +22,17 @@ added m f (p ∷ ps) (x ∷ xs) (y ∷ ys) sum = added m f ps xs ys (cond p ((su
 added m f _ _ _ sum = sum
 
 -- V22: what a pair of elements adds, modulo 2^64: their product for VMLADAV and VMLALDAV, the second one for VADDV and VADDLV
+-- (DDI0553, "VADDV", "VMLADAV", "VADDLV" and "VMLALDAV")
 abbrev pub term : Terms → ℕ → ℕ → ℕ
 term t x y = cond t.products (lane_product t.unsigned t.z x y) (extended_lane t.unsigned t.z y)
 
 -- V22: a sum modulo m after beat b; one that does not go on from its registers begins at 0 on the first beat
+-- (DDI0553, "VADDV", "VMLADAV", "VADDLV" and "VMLALDAV")
 abbrev pub sum_after : ℕ → Bool → Terms → ℕ → List Bool → ℕ → ℕ → ℕ → ℕ
 sum_after m goes_on t b active x y sum =
     added m (term t) (firsts t.z active) (lanes t.z (bytes_of x)) (lanes t.z (bytes_of y)) (cond (not goes_on && eqb b 0) 0 sum)
 
--- V22: the sum of VADDV or VMLADAV after beat b
+-- V22: the sum of VADDV or VMLADAV after beat b (DDI0553, "VADDV" and "VMLADAV")
 abbrev pub sum_next : Sums → ℕ → List Bool → List ℕ → ℕ
 sum_next r b active (sum ∷ x ∷ y ∷ vs) = sum_after (2 ^ 32) r.goes_on r.terms b active x y sum
 sum_next r b active _ = 0
@@ -48,7 +50,7 @@ sum_row r = record {
 }
 
 -- A SUM OF 64 BITS
--- V22: the sum of VADDLV or VMLALDAV after beat b
+-- V22: the sum of VADDLV or VMLALDAV after beat b (DDI0553, "VADDLV" and "VMLALDAV")
 abbrev pub long_next : LongSums → ℕ → List Bool → List ℕ → ℕ
 long_next r b active (low ∷ high ∷ x ∷ y ∷ vs) = sum_after (2 ^ 64) r.goes_on r.terms b active x y (low + 2 ^ 32 * high)
 long_next r b active _ = 0
@@ -68,17 +70,18 @@ long_row r = record {
 }
 
 -- AN EXTREME
--- V23: the greater of two numbers for VMAXV, the lesser for VMINV
+-- V23: the greater of two numbers for VMAXV, the lesser for VMINV (DDI0553, "VMAXV, VMAXAV" and "VMINV, VMINAV")
 abbrev pub better : ExtremeName → ℤ → ℤ → ℤ
 better extreme.Max = int_max
 better extreme.Min = int_min
 
--- the best of a number and of the active ones of a list
+-- V23: the best of a number and of the active ones of a list, for VMAXV and VMINV (DDI0553, "VMAXV, VMAXAV" and "VMINV, VMINAV")
 abbrev pub best : ExtremeName → List Bool → List ℤ → ℤ → ℤ
 best name (p ∷ ps) (x ∷ xs) v = best name ps xs (cond p (better name v x) v)
 best name _ _ v = v
 
 -- V23: the extreme of VMAXV or VMINV after a beat: of the low bits of the core register and the active elements of the word
+-- (DDI0553, "VMAXV, VMAXAV" and "VMINV, VMINAV")
 abbrev pub extreme_next : V23 → List Bool → List ℕ → ℕ
 extreme_next r active (t ∷ x ∷ vs) =
     let z = size_of r.z.value in

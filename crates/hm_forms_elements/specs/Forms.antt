@@ -64,7 +64,7 @@ abbrev pub lanes_new : Lanes → List ℕ → ℕ
 lanes_new l (old ∷ x ∷ ys) = word_of (lanewise3 l.z (lane_of l.f l.unsigned l.z) (bytes_of old) (bytes_of x) (bytes_of (operand_of l.z l.by ys)))
 lanes_new l _ = 0
 
--- an active lane saturates
+-- whether an active lane saturates
 abbrev pub lanes_mark : Lanes → List Bool → List ℕ → Bool
 lanes_mark l active (old ∷ x ∷ ys) =
     any_both active (lane_tests3 l.z (lane_saturates l.f l.unsigned l.z) (bytes_of old) (bytes_of x) (bytes_of (operand_of l.z l.by ys)))
@@ -76,7 +76,7 @@ lanes_row l = words_row false l.d.value (λ b. word_place l.n.value b ∷ operan
     (cond (saturates l.f) (Some (λ b. lanes_mark l)) None)
 
 -- A CONSTANT
--- V15: the new word b of VMOV, VMVN, VORR or VBIC, by the old word
+-- V15: the new word b of VMOV, VMVN, VORR or VBIC, by the old word (DDI0553, "VMOV (immediate)", "VMVN (immediate)", "VORR (immediate)" and "VBIC (immediate)")
 abbrev pub constant_new : V15 → ℕ → List ℕ → ℕ
 constant_new r b (old ∷ vs) = constant_op r old (imm_word r b)
 constant_new r b [] = 0
@@ -86,33 +86,34 @@ abbrev pub constant_row : V15 → Row
 constant_row r = words_row false r.d.value (λ b. []) (λ b slice. constant_new r b) None
 
 -- NARROW ELEMENTS
--- V16: whether an instruction saturates: VQMOVN and VQMOVUN do, and VMOVN does not
+-- V16: whether an instruction saturates: VQMOVN and VQMOVUN do, and VMOVN does not (DDI0553, "VMOVN", "VQMOVN" and "VQMOVUN")
 abbrev pub narrowing_saturates : NarrowingName → Bool
 narrowing_saturates narrowing.Plain = false
 narrowing_saturates n = true
 
--- V16: whether the wide elements are unsigned: those of VQMOVN of unsigned elements
+-- V16: whether the wide elements are unsigned: those of VQMOVN of unsigned elements (DDI0553, "VQMOVN")
 abbrev pub takes_unsigned : NarrowingName → Bool
 takes_unsigned narrowing.Unsigned = true
 takes_unsigned n = false
 
--- V16: whether the narrow elements are unsigned: those of VQMOVUN and of VQMOVN of unsigned elements
+-- V16: whether the narrow elements are unsigned: those of VQMOVUN and of VQMOVN of unsigned elements (DDI0553, "VQMOVN" and "VQMOVUN")
 abbrev pub gives_unsigned : NarrowingName → Bool
 gives_unsigned narrowing.Unsigned = true
 gives_unsigned narrowing.ToUnsigned = true
 gives_unsigned n = false
 
--- the narrow element of a wide one, and whether it saturates
+-- V16: the narrow element of a wide one, brought into its range where the instruction saturates (DDI0553, "VMOVN", "VQMOVN" and "VQMOVUN")
 abbrev pub narrowed : NarrowingName → Size → Size → ℕ → ℕ
 narrowed f wide small x =
     let v = lane_value (takes_unsigned f) wide x in
     cut small (cond (narrowing_saturates f) (clamped (gives_unsigned f) small v) v)
 
--- V16: whether a wide element is outside the range of the narrow one
+-- V16: whether a wide element is outside the range of the narrow one (DDI0553, "VMOVN", "VQMOVN" and "VQMOVUN")
 abbrev pub narrowing_outside : NarrowingName → Size → Size → ℕ → Bool
 narrowing_outside f wide small x = is_outside (gives_unsigned f) small (lane_value (takes_unsigned f) wide x)
 
--- narrow elements in the lower or the upper part of the wide ones' places: of two halves or of the whole of an operand's four bytes
+-- V16: narrow elements in the lower or the upper part of the wide ones' places: of two halves or of the whole of an operand's four bytes
+-- (DDI0553, "VMOVN", "VQMOVN" and "VQMOVUN")
 abbrev pub narrowing_bytes : Bool → Bool → NarrowingName → List ℕ → List ℕ → List ℕ
 narrowing_bytes false false f (a ∷ b ∷ c ∷ d ∷ l) (p ∷ q ∷ r ∷ s ∷ v) = narrowed f Half Byte (p + 256 * q) ∷ b ∷ narrowed f Half Byte (r + 256 * s) ∷ d ∷ []
 narrowing_bytes false true f (a ∷ b ∷ c ∷ d ∷ l) (p ∷ q ∷ r ∷ s ∷ v) = a ∷ narrowed f Half Byte (p + 256 * q) ∷ c ∷ narrowed f Half Byte (r + 256 * s) ∷ []
@@ -122,7 +123,7 @@ narrowing_bytes true true f (a ∷ b ∷ c ∷ d ∷ l) (p ∷ q ∷ r ∷ s ∷
     let n = narrowed f Word Half (p + 256 * q + 65536 * r + 16777216 * s) in a ∷ b ∷ n % 256 ∷ n / 256 ∷ []
 narrowing_bytes z t f _ _ = []
 
--- where they saturate
+-- V16: where wide elements are outside the range of the narrow ones, at the lowest byte of each narrow one (DDI0553, "VMOVN", "VQMOVN" and "VQMOVUN")
 abbrev pub narrowing_tests : Bool → Bool → NarrowingName → List ℕ → List Bool
 narrowing_tests false false f (p ∷ q ∷ r ∷ s ∷ v) =
     narrowing_outside f Half Byte (p + 256 * q) ∷ false ∷ narrowing_outside f Half Byte (r + 256 * s) ∷ false ∷ []
@@ -132,12 +133,12 @@ narrowing_tests true false f (p ∷ q ∷ r ∷ s ∷ v) = narrowing_outside f W
 narrowing_tests true true f (p ∷ q ∷ r ∷ s ∷ v) = false ∷ false ∷ narrowing_outside f Word Half (p + 256 * q + 65536 * r + 16777216 * s) ∷ false ∷ []
 narrowing_tests z t f _ = []
 
--- V16: the new word of VMOVN, VQMOVN or VQMOVUN, by the old word and that of the operand
+-- V16: the new word of VMOVN, VQMOVN or VQMOVUN, by the old word and that of the operand (DDI0553, "VMOVN", "VQMOVN" and "VQMOVUN")
 abbrev pub narrowing_new : V16 → List ℕ → ℕ
 narrowing_new r (old ∷ x ∷ vs) = word_of (narrowing_bytes (nat_eq r.z.value 1) (nat_eq r.t.value 1) r.name (bytes_of old) (bytes_of x))
 narrowing_new r _ = 0
 
--- V16: whether VQMOVN or VQMOVUN sets QC: whether an active narrow element of a word saturates
+-- V16: whether VQMOVN or VQMOVUN sets QC: whether an active narrow element of a word saturates (DDI0553, "VQMOVN" and "VQMOVUN")
 abbrev pub narrowing_mark : V16 → List Bool → List ℕ → Bool
 narrowing_mark r active (old ∷ x ∷ vs) = any_both active (narrowing_tests (nat_eq r.z.value 1) (nat_eq r.t.value 1) r.name (bytes_of x))
 narrowing_mark r active _ = false
@@ -148,37 +149,37 @@ narrowing_row r = words_row false r.d.value (λ b. word_place r.m.value b ∷ []
     (cond (narrowing_saturates r.name) (Some (λ b. narrowing_mark r)) None)
 
 -- A CARRY FROM WORD TO WORD
--- V8: whether an instruction subtracts: VSBC and VSBCI do
+-- V8: whether an instruction subtracts: VSBC and VSBCI do (DDI0553, "VSBC")
 abbrev pub subtracts : CarryName → Bool
 subtracts carry.Sbc = true
 subtracts carry.Sbci = true
 subtracts name = false
 
--- whether the first word begins with a carry of its own
+-- V8: whether the first word begins with a carry of its own: that of VADCI and VSBCI does (DDI0553, "VADC" and "VSBC")
 abbrev pub begins : CarryName → Bool
 begins carry.Adci = true
 begins carry.Sbci = true
 begins name = false
 
--- the place of the carry holds N, Z, C, V from bit 3 down
+-- V8: the place of the carry, which holds N, Z, C, V from bit 3 down; beat 0 of VADCI and VSBCI does not read it (DDI0553, "VADC" and "VSBC")
 abbrev pub carry_places : CarryName → ℕ → List Place
 carry_places name b = cond (begins name && eqb b 0) [] (Carry ∷ [])
 
--- the flags as they stand, and those that a row begins with
+-- V8: the flags before a word is added: those that were read, or else those that VADCI or VSBCI begins with (DDI0553, "VADC" and "VSBC")
 abbrev pub flags_before : CarryName → List ℕ → ℕ
 flags_before name [] = cond (subtracts name) 2 0
 flags_before name (flags ∷ vs) = flags
 
--- V8: the sum of two words and the carry, in 33 bits; VSBC and VSBCI invert the second word
+-- V8: the sum of two words and the carry, in 33 bits; VSBC and VSBCI invert the second word (DDI0553, "VADC" and "VSBC")
 abbrev pub carry_sum : CarryName → List ℕ → ℕ
 carry_sum name (old ∷ x ∷ y ∷ flags) = x + cond (subtracts name) (0xffffffff - y) y + flags_before name flags / 2 % 2
 carry_sum name _ = 0
 
--- V8: the new word of VADC, VADCI, VSBC or VSBCI: the sum modulo 2^32
+-- V8: the new word of VADC, VADCI, VSBC or VSBCI: the sum modulo 2^32 (DDI0553, "VADC" and "VSBC")
 abbrev pub carry_new : CarryName → List ℕ → ℕ
 carry_new name vs = carry_sum name vs % 2 ^ 32
 
--- the carry of an active word; an inactive one leaves the flags
+-- V8: the flags after a word: an active one leaves its carry, and an inactive one the flags before it (DDI0553, "VADC" and "VSBC")
 abbrev pub carry_flags : CarryName → List Bool → List ℕ → ℕ
 carry_flags name active (old ∷ x ∷ y ∷ flags) = cond (first active) (2 * (carry_sum name (old ∷ x ∷ y ∷ flags) / 2 ^ 32)) (flags_before name flags)
 carry_flags name active _ = 0
@@ -196,16 +197,16 @@ carry_row r = record {
 }
 
 -- A REGISTER SHIFTED THROUGH THE WORDS
--- V17: by how many bits VSHLC shifts, 32 coded 0
+-- V17: by how many bits VSHLC shifts, 32 coded 0 (DDI0553, "VSHLC")
 abbrev pub shift_of : V17 → ℕ
 shift_of r = zero_as_32 r.k.value
 
--- V17: the new word of VSHLC: the old one shifted to the left, with bits of the core register let in below
+-- V17: the new word of VSHLC: the old one shifted to the left, with bits of the core register let in below (DDI0553, "VSHLC")
 abbrev pub shift_new : V17 → List ℕ → ℕ
 shift_new r (c ∷ m ∷ vs) = c * 2 ^ shift_of r % 2 ^ 32 + m % 2 ^ shift_of r
 shift_new r _ = 0
 
--- V17: what VSHLC leaves in the core register: the bits that an active word lets out, or what stood there
+-- V17: what VSHLC leaves in the core register: the bits that an active word lets out, or what stood there (DDI0553, "VSHLC")
 abbrev pub shift_next : V17 → List Bool → List ℕ → ℕ
 shift_next r active (c ∷ m ∷ vs) = cond (first active) (c / 2 ^ (32 - shift_of r)) m
 shift_next r active _ = 0
@@ -223,45 +224,46 @@ shift_row r = record {
 }
 
 -- OFFSETS
--- the register at which offsets go round, where there is one
+-- V19: the register at which the offsets of VIWDUP and VDWDUP go round, where there is one (DDI0553, "VIDUP, VIWDUP" and "VDDUP, VDWDUP")
 abbrev pub round_places : Option (Below 6) → List Place
 round_places None = []
 round_places (Some r) = R (2 * r.value + 1) ∷ []
 
--- what stands in it
+-- V19: what stands in it (DDI0553, "VIDUP, VIWDUP" and "VDDUP, VDWDUP")
 abbrev pub round_of : List ℕ → Option ℕ
 round_of [] = None
 round_of (m ∷ vs) = Some m
 
--- the next offset, a step on or back
+-- V19: the next offset: a step on for VIDUP and VIWDUP, back for VDDUP and VDWDUP; where offsets go round, 0 takes the place of the number
+-- at which they do (DDI0553, "VIDUP, VIWDUP" and "VDDUP, VDWDUP")
 abbrev pub stepped : OffsetsName → ℕ → Option ℕ → ℕ → ℕ
 stepped offsets.Up step None o = (o + step) % 2 ^ 32
 stepped offsets.Up step (Some m) o = let x = (o + step) % 2 ^ 32 in cond (eqb x m) 0 x
 stepped offsets.Down step None o = (o + (2 ^ 32 - step)) % 2 ^ 32
 stepped offsets.Down step (Some m) o = (cond (eqb o 0) m o + (2 ^ 32 - step)) % 2 ^ 32
 
--- V19: the next offset of VIDUP, VIWDUP, VDDUP or VDWDUP, a step of 2 to the power k on or back
+-- V19: the next offset of VIDUP, VIWDUP, VDDUP or VDWDUP, a step of 2 to the power k on or back (DDI0553, "VIDUP, VIWDUP" and "VDDUP, VDWDUP")
 abbrev pub next_offset : Steps → Option ℕ → ℕ → ℕ
 next_offset r m o = stepped r.name (2 ^ r.k.value) m o
 
--- after n steps
+-- V19: the offset after n steps (DDI0553, "VIDUP, VIWDUP" and "VDDUP, VDWDUP")
 abbrev pub offset_after : Steps → Option ℕ → ℕ → ℕ → ℕ
 offset_after r m zero o = o
 offset_after r m (suc n) o = next_offset r m (offset_after r m n o)
 
--- n offsets from one on
+-- V19: n offsets from one on (DDI0553, "VIDUP, VIWDUP" and "VDDUP, VDWDUP")
 abbrev pub offsets_from : Steps → Option ℕ → ℕ → ℕ → List ℕ
 offsets_from r m zero o = []
 offsets_from r m (suc n) o = o ∷ offsets_from r m n (next_offset r m o)
 
--- V19: the new word b of VIDUP, VIWDUP, VDDUP or VDWDUP: the offsets of its elements
+-- V19: the new word b of VIDUP, VIWDUP, VDDUP or VDWDUP: the offsets of its elements (DDI0553, "VIDUP, VIWDUP" and "VDDUP, VDWDUP")
 abbrev pub offsets_new : Steps → ℕ → List ℕ → ℕ
 offsets_new r b (old ∷ o ∷ ms) =
     let m = round_of ms in
     word_of (unlanes r.z (offsets_from r m (per_word r.z) (offset_after r m (per_word r.z * b) o)))
 offsets_new r b _ = 0
 
--- V19: the offset after all elements of a vector register, which goes back to the core register
+-- V19: the offset after all elements of a vector register, which goes back to the core register (DDI0553, "VIDUP, VIWDUP" and "VDDUP, VDWDUP")
 abbrev pub offsets_last : Steps → List ℕ → ℕ
 offsets_last r (old ∷ o ∷ ms) = offset_after r (round_of ms) (4 * per_word r.z) o
 offsets_last r _ = 0
@@ -280,7 +282,7 @@ offsets_row r = record {
 }
 
 -- A CHOICE
--- the bytes of Qn where P0 has a bit, and those of Qm elsewhere
+-- V21: the bytes of Qn where P0 has a bit, and those of Qm elsewhere (DDI0553, "VPSEL")
 abbrev pub select_new : ℕ → List ℕ → ℕ
 select_new slice (old ∷ x ∷ y ∷ vs) = word_of (merged (truths slice) (bytes_of y) (bytes_of x))
 select_new slice _ = 0
@@ -290,11 +292,11 @@ abbrev pub select_row : Select → Row
 select_row r = words_row true r.d.value (λ b. word_place r.n.value b ∷ word_place r.m.value b ∷ []) (λ b. select_new) None
 
 -- LONG PRODUCTS
--- the word of a register that elements of beat b stand in; both words of a product of 64 bits come of one
+-- V6: the word of a register that elements of beat b stand in; both words of a product of 64 bits come of one (DDI0553, "VMULL (integer)")
 abbrev pub long_product_at : V6 → ℕ → ℕ
 long_product_at r b = cond (nat_eq r.z.value 2) (2 * (b / 2) + r.t.value) b
 
--- the product of two lanes
+-- V6: the product of two lanes, for VMULLB and VMULLT (DDI0553, "VMULL (integer)")
 abbrev pub product : V6 → ℕ → ℕ → ℕ
 product r x y = lane_product (nat_eq r.u.value 1) (size_of r.z.value) x y
 
@@ -303,19 +305,20 @@ abbrev pub every_second : Bool → List ℕ → List ℕ
 every_second odd (x ∷ y ∷ l) = cond odd y x ∷ every_second odd l
 every_second odd _ = []
 
--- products of half as many lanes, each in two lanes' place
+-- V6: products of half as many lanes, each in two lanes' place: of the even ones for VMULLB, of the odd ones for VMULLT (DDI0553, "VMULL (integer)")
 abbrev pub products : V6 → Size → Size → ℕ → ℕ → ℕ
 products r z wide x y =
     let odd = nat_eq r.t.value 1 in
     word_of (unlanes wide (paired (product r) (every_second odd (lanes z (bytes_of x))) (every_second odd (lanes z (bytes_of y)))))
 
 -- V6: word b of the products of VMULLB or VMULLT; of a product of 64 bits an even beat takes the low half, an odd one the high half
+-- (DDI0553, "VMULL (integer)")
 abbrev pub long_product_word : V6 → Size → ℕ → ℕ → ℕ → ℕ
 long_product_word r Byte b x y = products r Byte Half x y
 long_product_word r Half b x y = products r Half Word x y
 long_product_word r Word b x y = cond (eqb (b % 2) 0) (product r x y % 2 ^ 32) (product r x y / 2 ^ 32)
 
--- V6: the new word b of VMULLB or VMULLT, by words of both operands
+-- V6: the new word b of VMULLB or VMULLT, by words of both operands (DDI0553, "VMULL (integer)")
 abbrev pub long_product_new : V6 → ℕ → List ℕ → ℕ
 long_product_new r b (old ∷ x ∷ y ∷ vs) = long_product_word r (size_of r.z.value) b x y
 long_product_new r b _ = 0
@@ -330,7 +333,7 @@ long_product_row r = words_row false r.d.value (λ b. word_place r.n.value (long
 abbrev pub other_word : ℕ → ℕ
 other_word b = cond (eqb (b % 2) 0) (b + 1) (b - 1)
 
--- V9: the word of the second operand that beat b takes: the other one of its pair where elements are words, and else word b
+-- V9: the word of the second operand that beat b takes: the other one of its pair where elements are words, and else word b (DDI0553, "VCADD" and "VHCADD")
 abbrev pub complex_sum_at : V9 → ℕ → ℕ
 complex_sum_at r b = cond (nat_eq r.z.value 2) (other_word b) b
 
@@ -344,32 +347,32 @@ abbrev pub in_turn : (Bool → ℕ → ℕ → ℕ) → Bool → List ℕ → Li
 in_turn f even (x ∷ xs) (y ∷ ys) = f even x y ∷ in_turn f (not even) xs ys
 in_turn f even _ _ = []
 
--- V9: whether results are halved: those of VHCADD are
+-- V9: whether results are halved: those of VHCADD are (DDI0553, "VHCADD")
 abbrev pub halves : ComplexSumName → Bool
 halves complex_sum.Cadd = false
 halves complex_sum.Hcadd = true
 
--- a neighbour is taken from even elements for 90, and from odd ones for 270, and added to the others
+-- V9: whether its neighbour is taken from an element and not added: from even ones for 90, from odd ones for 270 (DDI0553, "VCADD" and "VHCADD")
 abbrev pub takes_away : V9 → Bool → Bool
 takes_away r even = cond (nat_eq r.t.value 0) even (not even)
 
--- V9: a sum or a difference of two numbers, halved or not
+-- V9: a sum or a difference of two numbers, halved or not (DDI0553, "VCADD" and "VHCADD")
 abbrev pub combined : Bool → Bool → ℤ → ℤ → ℤ
 combined minus half a b = let v = cond minus (a -ℤ b) (a +ℤ b) in cond half (halved v) v
 
--- V9: the new element of VCADD or VHCADD, of an even number or an odd one, by its own and its neighbour of the second operand
+-- V9: the new element of VCADD or VHCADD, of an even number or an odd one, by its own and its neighbour of the second operand (DDI0553, "VCADD" and "VHCADD")
 abbrev pub complex_sum_lane : V9 → Size → Bool → ℕ → ℕ → ℕ
 complex_sum_lane r z even x y = cut z (combined (takes_away r even) (halves r.name) (lane_value false z x) (lane_value false z y))
 
--- the number of a word's first element is even
+-- V9: whether the number of the first element of word b is even (DDI0553, "VCADD" and "VHCADD")
 abbrev pub begins_even : V9 → ℕ → Bool
 begins_even r b = not (nat_eq r.z.value 2) || eqb (b % 2) 0
 
--- V9: the new word of VCADD or VHCADD, by words of both operands and whether its first element has an even number
+-- V9: the new word of VCADD or VHCADD, by words of both operands and whether its first element has an even number (DDI0553, "VCADD" and "VHCADD")
 abbrev pub complex_sum_word : V9 → Size → Bool → ℕ → ℕ → ℕ
 complex_sum_word r z even x y = word_of (unlanes z (in_turn (complex_sum_lane r z) even (lanes z (bytes_of x)) (exchanged (lanes z (bytes_of y)))))
 
--- V9: the new word b of VCADD or VHCADD, by what was read
+-- V9: the new word b of VCADD or VHCADD, by what was read (DDI0553, "VCADD" and "VHCADD")
 abbrev pub complex_sum_new : V9 → ℕ → List ℕ → ℕ
 complex_sum_new r b (old ∷ x ∷ y ∷ vs) = complex_sum_word r (size_of r.z.value) (begins_even r b) x y
 complex_sum_new r b _ = 0
@@ -380,17 +383,17 @@ complex_sum_row r = words_row false r.d.value (λ b. word_place r.n.value b ∷ 
     None
 
 -- ELEMENTS IN REVERSE
--- the word that beat b is made of: groups of 64 bits exchange their words
+-- V14: the word that beat b is made of: groups of 64 bits exchange their words (DDI0553, "VREV64", "VREV32" and "VREV16")
 abbrev pub reversed_at : ReverseName → ℕ → ℕ
 reversed_at rev.Rev64 b = other_word b
 reversed_at name b = b
 
--- the elements of a word in reverse; groups of 16 bits are pairs of bytes
+-- V14: the elements of a word in reverse; groups of 16 bits are pairs of bytes (DDI0553, "VREV64", "VREV32" and "VREV16")
 abbrev pub reversed_word : ReverseName → Size → ℕ → ℕ
 reversed_word rev.Rev16 z x = word_of (exchanged (bytes_of x))
 reversed_word name z x = word_of (unlanes z (reverse (lanes z (bytes_of x))))
 
--- V14: the new word of VREV64, VREV32 or VREV16, by what was read
+-- V14: the new word of VREV64, VREV32 or VREV16, by what was read (DDI0553, "VREV64", "VREV32" and "VREV16")
 abbrev pub reversed_new : V14 → List ℕ → ℕ
 reversed_new r (old ∷ x ∷ vs) = reversed_word r.name (size_of r.z.value) x
 reversed_new r _ = 0
@@ -400,19 +403,19 @@ abbrev pub reversed_row : V14 → Row
 reversed_row r = words_row false r.d.value (λ b. word_place r.m.value (reversed_at r.name b) ∷ []) (λ b slice. reversed_new r) None
 
 -- LANES MADE LONGER
--- extended and shifted, which is times a factor
+-- V12: a lane extended and shifted, which is times a factor (DDI0553, "VSHLL" and "VMOVL")
 abbrev pub widened : Widening → Size → ℕ → ℕ
 widened r z x = extended_lane r.unsigned z x * r.factor % 2 ^ 64
 
--- V12: the even or the odd lanes of a word made longer, in lanes of twice their size
+-- V12: the even or the odd lanes of a word made longer, in lanes of twice their size (DDI0553, "VSHLL" and "VMOVL")
 abbrev pub long_lanes : Widening → Size → Size → ℕ → ℕ
 long_lanes r z wide x = word_of (unlanes wide (map (widened r z) (every_second r.odd (lanes z (bytes_of x)))))
 
--- V12: the new word of VSHLL or VMOVL, by that of the operand, whose lanes are halfwords or bytes
+-- V12: the new word of VSHLL or VMOVL, by that of the operand, whose lanes are halfwords or bytes (DDI0553, "VSHLL" and "VMOVL")
 abbrev pub widening_word : Widening → ℕ → ℕ
 widening_word r x = cond r.halves (long_lanes r Half Word x) (long_lanes r Byte Half x)
 
--- V12: the new word of VSHLL or VMOVL, by what was read
+-- V12: the new word of VSHLL or VMOVL, by what was read (DDI0553, "VSHLL" and "VMOVL")
 abbrev pub widening_new : Widening → List ℕ → ℕ
 widening_new r (old ∷ x ∷ vs) = widening_word r x
 widening_new r _ = 0

@@ -13,7 +13,7 @@ use Rattle.hm_lane_fns.specs.Words.{both, filled, nibble, operand_of, operand_pl
 use Rattle.hm_forms_predicate.specs.declared.compare.Comparison.{Comparison}
 
 -- THE PREDICATE ITSELF
--- whether condition c holds of two lanes: eq, ne; without a sign cs, hi; with a sign ge, lt, gt, le
+-- V20: whether condition c holds of two lanes: eq, ne; without a sign cs, hi; with a sign ge, lt, gt, le (DDI0553, "VCMP" and "VPT")
 abbrev pub compares : ℕ → Size → ℕ → ℕ → Bool
 compares c z x y =
     if nat_eq c 0 then eqb x y
@@ -25,7 +25,7 @@ compares c z x y =
     else (if nat_eq c 6 then int_lt (lane_value false z y) (lane_value false z x)
     else not (int_lt (lane_value false z y) (lane_value false z x))))))))
 
--- V20: the slice of P0 that VCMP and VPT make: the active bytes of elements that compare so
+-- V20: the slice of P0 that VCMP and VPT make: the active bytes of elements that compare so (DDI0553, "VCMP" and "VPT")
 abbrev pub compare_slice : Comparison → List Bool → List ℕ → ℕ
 compare_slice r active (x ∷ ys) =
     nibble (both (filled r.z (paired_tests (compares r.c.value r.z) (lanes r.z (bytes_of x)) (lanes r.z (bytes_of (operand_of r.z r.by ys))))) active)
@@ -43,7 +43,7 @@ slice_row always_slice reads f mask = record {
   mark = None;
 }
 
--- V20: the mask that VPT begins a block with; 0 stands for VCMP, which begins none
+-- V20: the mask that VPT begins a block with; 0 stands for VCMP, which begins none (DDI0553, "VCMP" and "VPT")
 abbrev pub block_mask : ℕ → Option ℕ
 block_mask k = cond (eqb k 0) None (Some k)
 
@@ -51,11 +51,11 @@ block_mask k = cond (eqb k 0) None (Some k)
 abbrev pub compare_row : Comparison → Row
 compare_row r = slice_row false (λ b. word_place r.n.value b ∷ operand_places r.by b) (λ b slice. compare_slice r) (block_mask r.k.value)
 
--- the bytes of word b that the first n elements have
+-- V21: the bytes of word b that the first n elements have (DDI0553, "VCTP")
 abbrev pub counted : ℕ → ℕ → ℕ → List Bool
 counted z n b = ltb (4 * b) (n * 2 ^ z) ∷ ltb (4 * b + 1) (n * 2 ^ z) ∷ ltb (4 * b + 2) (n * 2 ^ z) ∷ ltb (4 * b + 3) (n * 2 ^ z) ∷ []
 
--- V21: the slice of P0 that VCTP makes: the active bytes of the first elements, as many as the core register says
+-- V21: the slice of P0 that VCTP makes: the active bytes of the first elements, as many as the core register says (DDI0553, "VCTP")
 abbrev pub count_slice : Tail → ℕ → List Bool → List ℕ → ℕ
 count_slice r b active (n ∷ vs) = nibble (both (counted r.z.value n b) active)
 count_slice r b active [] = 0
