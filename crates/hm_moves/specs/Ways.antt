@@ -1,4 +1,5 @@
--- The rows that load or store: where each finds its elements.
+-- The rows that load or store: where each finds its elements. V24 and V25: DDI0553, "VLDRB, VLDRH, VLDRW" and "VSTRB, VSTRH, VSTRW";
+-- V26 and V27: "VLDRB, VLDRH, VLDRW, VLDRD (vector)" and "VSTRB, VSTRH, VSTRW, VSTRD (vector)"; V28: "VLD2", "VLD4", "VST2" and "VST4".
 use Rattle.std.specs.Prelude.{ℕ, zero, suc, ◌+◌, ◌*◌, ◌/◌, ◌%◌, ◌^◌, Bool, true, false, ◌&&◌, cond, eqb, ltb, List, [], ◌∷◌, get_or}
 use Rattle.hm_base.specs.Bits.{field}
 use Rattle.hm_base.specs.declared.Place.{Place}
@@ -20,7 +21,8 @@ each_from f j zero = []
 each_from f j (suc n) = f j ∷ each_from f (j + 1) n
 
 -- WHERE A ROW FINDS ITS ELEMENTS
--- V24 to V28: how VLDRB, VSTRB and their kin, VLD2, VLD4, VST2 and VST4 find the elements that they load or store
+-- V24 to V28: how VLDRB, VSTRB and their kin, VLD2, VLD4, VST2 and VST4 find the elements that they load or store, one way each:
+-- V24 and V25 contiguous, V26 at offsets, V27 at addresses, V28 interleaved
 pub data Found : Type 0 where
   -- one behind another, for vector register d: from the base in register n, or from there with the offset; the base may get it too
   contiguous : (d n offset : ℕ) (before back : Bool) → Found
@@ -31,7 +33,7 @@ pub data Found : Type 0 where
   -- in turn for two registers from d on, or for four, from the base in n: one part of as many as there are registers
   interleaved : (d n : ℕ) (four : Bool) (part : ℕ) (back : Bool) → Found
 
--- what a row moves: it stores or loads elements, whose size in memory and in their register it says, with their sign or without
+-- V24 to V28: what a row moves: it stores or loads elements, whose size in memory and in their register it says, with their sign or without
 pub record Transfer : Type 0 where
   pub store : Bool
   pub memory : Size
@@ -43,27 +45,27 @@ pub record Transfer : Type 0 where
 abbrev pub element : ℕ → ℕ → ℕ → Element
 element a word lane = record { addr = a % 2 ^ 32; word = word; lane = lane }
 
--- where elements that stand one behind another begin
+-- V24 and V25: where elements that stand one behind another begin
 abbrev pub start : Bool → ℕ → ℕ → ℕ
 start before offset base = cond before ((base + offset) % 2 ^ 32) base
 
--- how many registers take elements in turn
+-- V28: how many registers take elements in turn: four by VLD4 and VST4, two by VLD2 and VST2
 abbrev pub registers : Bool → ℕ
 registers four = cond four 4 2
 
--- the number of the first element of beat b in the stream: beat b of a part moves word 4 * part + b of memory
+-- V28: the number of the first element of beat b in the stream: beat b of a part moves word 4 * part + b of memory
 abbrev pub stream : ℕ → Size → ℕ → ℕ
 stream part z b = per_word z * (4 * part + b)
 
--- what the addresses of beat b are made of
+-- V24 to V28: what the addresses of beat b are made of
 abbrev pub way_sources : Found → ℕ → List Place
 way_sources (contiguous d n offset before back) b = R n ∷ []
 way_sources (at_offsets d n m scale) b = R n ∷ word_place m b ∷ []
 way_sources (at_addresses d m offset back) b = word_place m b ∷ []
 way_sources (interleaved d n four part back) b = R n ∷ []
 
--- Element j of beat b, of size y in memory and z in its register, by what stands in the sources. Of interleaved ones element k of the stream is
--- element k div R of register k mod R, where there are R registers.
+-- V24 to V28: element j of beat b, of size y in memory and z in its register, by what stands in the sources; of interleaved ones element k of
+-- the stream is element k div R of register k mod R, where there are R registers
 abbrev pub way_element : Size → Size → Found → ℕ → List ℕ → ℕ → Element
 way_element y z (contiguous d n offset before back) b ns j =
     element (start before offset (get_or ns 0 0) + byte_count y * (per_word z * b + j)) 0 (byte_count z * j)
@@ -74,7 +76,7 @@ way_element y z (interleaved d n four part back) b ns j =
     let k = stream part z b + j in
     element (get_or ns 0 0 + byte_count y * k) (j % registers four) (byte_count z * (k / registers four) % 4)
 
--- the words that beat b fills or stores from; interleaved elements are of one word of each register that they are of
+-- V24 to V28: the words that beat b fills or stores from; interleaved elements are of one word of each register that they are of
 abbrev pub way_words : Size → Found → ℕ → List Place
 way_words z (contiguous d n offset before back) b = word_place d b ∷ []
 way_words z (at_offsets d n m scale) b = word_place d b ∷ []
@@ -83,26 +85,26 @@ way_words z (interleaved d n four part back) b =
     each_from (λ i. let k = stream part z b + i in word_place (d + k % registers four) (byte_count z * (k / registers four) / 4)) 0
     (cond (ltb (per_word z) (registers four)) (per_word z) (registers four))
 
--- what is written back: the base on the last beat, or each address on its beat
+-- V24 to V28: what is written back: the base on the last beat, or each address on its beat
 abbrev pub way_back : Found → ℕ → List ℕ → List Write
 way_back (contiguous d n offset before back) b ns = cond (back && eqb b 3) (write (R n) ((get_or ns 0 0 + offset) % 2 ^ 32) ∷ []) []
 way_back (at_offsets d n m scale) b ns = []
 way_back (at_addresses d m offset back) b ns = cond back (write (word_place m b) ((get_or ns 0 0 + offset) % 2 ^ 32) ∷ []) []
 way_back (interleaved d n four part back) b ns = cond (back && eqb b 3) (write (R n) ((get_or ns 0 0 + 16 * registers four) % 2 ^ 32) ∷ []) []
 
--- interleaved rows move every element
+-- whether a row is under the predicate: those of V24 to V27 are; V28 moves every element
 abbrev pub way_predicated : Found → Bool
 way_predicated (interleaved d n four part back) = false
 way_predicated w = true
 
--- whether one of its beats writes lr
+-- V24 to V28: whether a beat of a row writes lr
 abbrev pub way_writes_lr : Found → Bool
 way_writes_lr (contiguous d n offset before back) = back && eqb n 14
 way_writes_lr (at_offsets d n m scale) = false
 way_writes_lr (at_addresses d m offset back) = false
 way_writes_lr (interleaved d n four part back) = back && eqb n 14
 
--- the row
+-- V24 to V28: a row as what each beat moves
 abbrev pub moves_by : Transfer → Moves
 moves_by t = record {
   store = t.store;
@@ -132,6 +134,6 @@ transfer_of m = record { store = m.store; memory = m.memory; register = m.regist
 abbrev pub moves_of : Move → Moves
 moves_of m = moves_by (transfer_of m)
 
--- beat b of a row
+-- V24 to V28: beat b of a row, by what the code holds
 abbrev pub move_tree : Move → Around → ℕ → Tree
 move_tree m = moves_tree (moves_of m)

@@ -1,4 +1,6 @@
 -- The whole of a row that loads or stores: its elements as lists, in rising order, and whole registers.
+-- V24 and V25: DDI0553, "VLDRB, VLDRH, VLDRW" and "VSTRB, VSTRH, VSTRW";
+-- V26 and V27: "VLDRB, VLDRH, VLDRW, VLDRD (vector)" and "VSTRB, VSTRH, VSTRW, VSTRD (vector)"; V28: "VLD2", "VLD4", "VST2" and "VST4".
 use Rattle.std.specs.Prelude.{ℕ, ◌≡◌, ◌≤◌, ◌+◌, ◌*◌, ◌/◌, ◌%◌, ◌^◌, Bool, true, false, cond, List, [], ◌∷◌, ◌++◌, map, get_or, Option, None, Result, Ok}
 use Rattle.std.specs.List.{flat_map}
 use Rattle.std.specs.Option.{option_or}
@@ -25,14 +27,14 @@ abbrev pub count : Size → ℕ
 count z = 4 * per_word z
 
 -- WHERE THE ELEMENTS STAND IN MEMORY
--- the addresses of the elements, of size y in memory and of size z in their register; an element at an address has that of its word
+-- V24 to V28: the addresses of the elements, of size y in memory and of size z in their register; an element at an address has that of its word
 abbrev pub addresses : Size → Size → Found → State → List ℕ
 addresses y z (contiguous d n offset before back) s = each_from (λ j. (start before offset (at (R n) s) + byte_count y * j) % 2 ^ 32) 0 (count z)
 addresses y z (at_offsets d n m scale) s = map (λ o. (at (R n) s + o * 2 ^ scale) % 2 ^ 32) (lanes z (register_at m s))
 addresses y z (at_addresses d m offset back) s = each_from (λ j. (get_or (lanes Word (register_at m s)) (j / per_word z) 0 + offset) % 2 ^ 32) 0 (count z)
 addresses y z (interleaved d n four part back) s = each_from (λ k. (at (R n) s + byte_count y * k) % 2 ^ 32) (count z * part) (count z)
 
--- which elements are moved: the active ones, or all of a row that is not under the predicate
+-- V24 to V28: which elements are moved: the active ones, or all of a row of V28, which is not under the predicate
 abbrev pub are_moved : Size → Found → State → List Bool
 are_moved z w s = cond (way_predicated w) (firsts z (predicate_at s)) (each_from (λ j. true) 0 (count z))
 
@@ -42,35 +44,35 @@ fault_of store len (p ∷ ps) (a ∷ addrs) = option_or (cond p (fault_after (fa
 fault_of store len _ _ = None
 
 -- A PART OF A REGISTER
--- of four registers each gives or takes one word, and of two registers two words, from this one on
+-- V28: of four registers each gives or takes one word, and of two registers two words, from this one on
 abbrev pub part_word : Bool → ℕ → ℕ
 part_word four part = cond four part (2 * part)
 
--- the bytes of a register that belong to a part: one word of each of four registers, two words of each of two
+-- V28: the bytes of a register that belong to a part: one word of each of four registers, two words of each of two
 abbrev pub part_at : Bool → ℕ → ℕ → State → List ℕ
 part_at four part q s =
     let b = part_word four part in
     cond four (bytes_of (at (word_place q b) s)) (bytes_of (at (word_place q b) s) ++ bytes_of (at (word_place q (b + 1)) s))
 
 -- LOADS
--- the number that stands at an address, and what it is loaded as
+-- the number that stands at an address
 abbrev pub read_at : Size → State → ℕ → ℕ
 read_at y s a = little_endian (byte_count y) (numbers (map s.cell (map Byte (span_bytes a (byte_count y)))))
 
--- what the number at an address is loaded as, extended with its sign or without
+-- V24 to V28: what the number at an address is loaded as, extended with its sign or without
 abbrev pub loaded : Transfer → State → ℕ → ℕ
 loaded t s a = as_loaded (moves_by t) (read_at t.memory s a)
 
--- the elements as they are loaded, with zero in the place of each that is not
+-- V24 to V28: the elements as they are loaded, with zero in the place of each that is not
 abbrev pub loaded_elements : (ℕ → ℕ) → List Bool → List ℕ → List ℕ
 loaded_elements f (p ∷ ps) (a ∷ addrs) = cond p (f a) 0 ∷ loaded_elements f ps addrs
 loaded_elements f _ _ = []
 
--- of all elements those from number i on that registers which take them in turn leave to one: every second, or every fourth
+-- V28: of all elements those from number i on that registers which take them in turn leave to one: every second, or every fourth
 abbrev pub taken_by : ℕ → ℕ → ℕ → List ℕ → List ℕ
 taken_by all every i xs = each_from (λ e. get_or xs (every * e + i) 0) 0 (all / every)
 
--- a register takes the elements, or each register its own, as a part of it
+-- V24 to V28: a register takes the elements, or each register its own, as a part of it
 abbrev pub filled_registers : Size → Found → List ℕ → List (Cell × Value)
 filled_registers z (contiguous d n offset before back) xs = write_register d (unlanes z xs)
 filled_registers z (at_offsets d n m scale) xs = write_register d (unlanes z xs)
@@ -80,7 +82,7 @@ filled_registers z (interleaved d n four part back) xs =
     (each_from (λ i. i) 0 (registers four))
 
 -- STORES
--- the elements as they stand in their register, or in a part of each register by turns
+-- V24 to V28: the elements as they stand in their register, or in a part of each register by turns
 abbrev pub stored_elements : Size → Found → State → List ℕ
 stored_elements z (contiguous d n offset before back) s = lanes z (register_at d s)
 stored_elements z (at_offsets d n m scale) s = lanes z (register_at d s)
@@ -99,19 +101,19 @@ element_bytes y (p ∷ ps) (a ∷ addrs) (x ∷ xs) = cond p (number_bytes x 0 (
 element_bytes y _ _ _ = []
 
 -- THE WHOLE
--- the base gets the next one, or each word its address
+-- V24 to V28: what is written back: the base register with the offset, or each word of addresses with it; by V28 the base moves past all elements
 abbrev pub written_back : Found → State → List (Cell × Value)
 written_back (contiguous d n offset before back) s = cond back (into (write (R n) ((at (R n) s + offset) % 2 ^ 32)) ∷ []) []
 written_back (at_offsets d n m scale) s = []
 written_back (at_addresses d m offset back) s = cond back (write_register m (unlanes Word (map (λ a. (a + offset) % 2 ^ 32) (lanes Word (register_at m s))))) []
 written_back (interleaved d n four part back) s = cond back (into (write (R n) ((at (R n) s + 16 * registers four) % 2 ^ 32)) ∷ []) []
 
--- what registers and bytes get, by which elements are moved and where they stand
+-- V24 to V28: what registers and bytes get, by which elements are moved and where they stand
 abbrev pub transferred : Transfer → List Bool → List ℕ → State → List (Cell × Value)
 transferred t ps addrs s = cond t.store (element_bytes t.memory ps addrs (stored_elements t.register t.found s))
     (filled_registers t.register t.found (loaded_elements (loaded t s) ps addrs))
 
--- The first element that has a fault gives it. Else all elements are moved, the base or the addresses are written back, and the masks advance.
+-- V24 to V28: the first element that has a fault gives it; else all elements are moved, the base or the addresses are written back, and the masks advance
 abbrev pub transfer_whole : Transfer → State → Result State Fault
 transfer_whole t s =
     let ps = are_moved t.register t.found s in
