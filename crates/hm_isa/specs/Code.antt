@@ -481,7 +481,8 @@ bitwise_base bitwise.Eor = 0xff000150
 abbrev pub code_v2 : V2 → ℕ
 code_v2 r = bitwise_base r.name + r.n.value ↑ 17 + r.d.value ↑ 13 + r.m.value ↑ 1
 
--- V3: the code of VMAX, VMIN, VABD, VHADD, VRHADD, VHSUB, VQADD, VQSUB of signed elements, all else 0 (DDI0553, the sections named at the type V3)
+-- V3: the code of VMAX, VMIN, VABD, VHADD, VRHADD, VHSUB, VQADD, VQSUB of signed elements, all else 0
+-- (DDI0553, "VMAX, VMAXA", "VMIN, VMINA", "VABD", "VHADD", "VRHADD", "VHSUB", "VQADD" and "VQSUB")
 abbrev pub signed_base : SignedName → ℕ
 signed_base signed.Max = 0xef000640
 signed_base signed.Min = 0xef000650
@@ -492,7 +493,8 @@ signed_base signed.Hsub = 0xef000240
 signed_base signed.Qadd = 0xef000050
 signed_base signed.Qsub = 0xef000250
 
--- V3: VMAX, VMIN, VABD, VHADD, VRHADD, VHSUB, VQADD and VQSUB of vectors (DDI0553, the sections named at the type V3)
+-- V3: VMAX, VMIN, VABD, VHADD, VRHADD, VHSUB, VQADD and VQSUB of vectors
+-- (DDI0553, "VMAX, VMAXA", "VMIN, VMINA", "VABD", "VHADD", "VRHADD", "VHSUB", "VQADD" and "VQSUB")
 abbrev pub code_v3 : V3 → ℕ
 code_v3 r = signed_base r.name + r.u.value ↑ 28 + r.z.value ↑ 20 + r.n.value ↑ 17 + r.d.value ↑ 13 + r.m.value ↑ 1
 
@@ -550,7 +552,8 @@ abbrev pub code_v9 : V9 → ℕ
 code_v9 r = complex_sum_base r.name + r.z.value ↑ 20 + r.t.value ↑ 12 + r.n.value ↑ 17 + r.d.value ↑ 13 + r.m.value ↑ 1
 
 -- V10: the code of VADD, VSUB, VMUL, VHADD, VHSUB, VQADD, VQSUB, VQDMULH, VQRDMULH, VMLA and VMLAS with a sign bit of 0, size and registers 0
--- (DDI0553, the sections named at the type V10)
+-- (DDI0553, the forms with a scalar of "VADD (vector)", "VSUB (vector)", "VMUL (vector)", "VHADD", "VHSUB", "VQADD", "VQSUB" and
+-- "VQDMULH, VQRDMULH (vector)", and "VMLA (vector by scalar plus vector)" and "VMLAS (vector by vector plus scalar)")
 abbrev pub scalar_base : ScalarName → ℕ
 scalar_base by_scalar.Add = 0xee010f40
 scalar_base by_scalar.Sub = 0xee011f40
@@ -565,7 +568,8 @@ scalar_base by_scalar.Mla = 0xee010e40
 scalar_base by_scalar.Mlas = 0xee011e40
 
 -- V10: VADD, VSUB, VMUL, VHADD, VHSUB, VQADD, VQSUB, VQDMULH, VQRDMULH, VMLA and VMLAS of a vector and a core register
--- (DDI0553, the sections named at the type V10)
+-- (DDI0553, the forms with a scalar of "VADD (vector)", "VSUB (vector)", "VMUL (vector)", "VHADD", "VHSUB", "VQADD", "VQSUB" and
+-- "VQDMULH, VQRDMULH (vector)", and "VMLA (vector by scalar plus vector)" and "VMLAS (vector by vector plus scalar)")
 abbrev pub code_v10 : V10 → ℕ
 code_v10 r = scalar_base r.name + r.u.value ↑ 28 + r.z.value ↑ 20 + r.n.value ↑ 17 + r.d.value ↑ 13 + r.m.value
 

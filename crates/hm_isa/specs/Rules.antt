@@ -143,7 +143,8 @@ is_reversed reverse_.Rev32 z d m = nat_lt z 2
 is_reversed reverse_.Rev16 z d m = nat_eq z 0
 
 -- V10: whether the name of an operation says whether elements are signed: VHADD, VHSUB, VQADD, VQSUB, VMLA and VMLAS
--- (DDI0553, the sections named at the type V10)
+-- (DDI0553, the forms with a scalar of "VADD (vector)", "VSUB (vector)", "VMUL (vector)", "VHADD", "VHSUB", "VQADD", "VQSUB" and
+-- "VQDMULH, VQRDMULH (vector)", and "VMLA (vector by scalar plus vector)" and "VMLAS (vector by vector plus scalar)")
 abbrev pub has_sign : ScalarName → Bool
 has_sign by_scalar.Add = false
 has_sign by_scalar.Sub = false
@@ -157,7 +158,9 @@ has_sign by_scalar.Qrdmulh = false
 has_sign by_scalar.Mla = true
 has_sign by_scalar.Mlas = true
 
--- V10: u is 0 where the name says nothing of signs (DDI0553, the sections named at the type V10)
+-- V10: u is 0 where the name says nothing of signs
+-- (DDI0553, the forms with a scalar of "VADD (vector)", "VSUB (vector)", "VMUL (vector)", "VHADD", "VHSUB", "VQADD", "VQSUB" and
+-- "VQDMULH, VQRDMULH (vector)", and "VMLA (vector by scalar plus vector)" and "VMLAS (vector by vector plus scalar)")
 abbrev pub is_signed_by : ScalarName → ℕ → Bool
 is_signed_by name u = has_sign name || nat_eq u 0
 

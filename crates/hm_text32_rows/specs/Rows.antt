@@ -103,7 +103,8 @@ insert_tokens i =
     (and_constant (cond (nat_eq i.n.value 15) (one (codes "bfc") (r i.d.value)) (two (codes "bfi") (r i.d.value) (r i.n.value))) (imm5 i.i3.value i.i2.value))
     (i.e.value + 1 - (imm5 i.i3.value i.i2.value))
 
--- T11: the tokens of MUL, SDIV and UDIV, of MLA and MLS, and of SMULL, UMULL, SMLAL and UMLAL (DDI0553, the section of each, as "MUL")
+-- T11: the tokens of MUL, SDIV and UDIV, of MLA and MLS, and of SMULL, UMULL, SMLAL and UMLAL
+-- (DDI0553, "MUL", "MLA", "MLS", "SMULL", "UMULL", "SMLAL", "UMLAL", "SDIV" and "UDIV")
 abbrev pub product_tokens : ProductRow → List Tok
 product_tokens (t11.Operation i) = three (operation_mnemonic i.name) (r i.d.value) (r i.n.value) (r i.m.value)
 product_tokens (t11.Accumulate i) = four (accumulate_mnemonic i.name) (r i.d.value) (r i.n.value) (r i.m.value) (r i.a.value)

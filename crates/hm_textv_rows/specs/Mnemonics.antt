@@ -73,7 +73,8 @@ bitwise_mnemonic bitwise.Orr = codes "vorr"
 bitwise_mnemonic bitwise.Orn = codes "vorn"
 bitwise_mnemonic bitwise.Eor = codes "veor"
 
--- V3: the mnemonic of each name, VMAX, VMIN, VABD, VHADD, VRHADD, VHSUB, VQADD and VQSUB (DDI0553, the sections named at the type V3)
+-- V3: the mnemonic of each name, VMAX, VMIN, VABD, VHADD, VRHADD, VHSUB, VQADD and VQSUB
+-- (DDI0553, "VMAX, VMAXA", "VMIN, VMINA", "VABD", "VHADD", "VRHADD", "VHSUB", "VQADD" and "VQSUB")
 abbrev pub signed_mnemonic : SignedName → List ℕ
 signed_mnemonic signed_.Max = codes "vmax"
 signed_mnemonic signed_.Min = codes "vmin"
@@ -118,7 +119,8 @@ complex_sum_mnemonic complex_sum.Cadd = codes "vcadd"
 complex_sum_mnemonic complex_sum.Hcadd = codes "vhcadd"
 
 -- V10: the mnemonic of each name, VADD, VSUB, VMUL, VHADD, VHSUB, VQADD, VQSUB, VQDMULH, VQRDMULH, VMLA and VMLAS
--- (DDI0553, the sections named at the type V10)
+-- (DDI0553, the forms with a scalar of "VADD (vector)", "VSUB (vector)", "VMUL (vector)", "VHADD", "VHSUB", "VQADD", "VQSUB" and
+-- "VQDMULH, VQRDMULH (vector)", and "VMLA (vector by scalar plus vector)" and "VMLAS (vector by vector plus scalar)")
 abbrev pub scalar_mnemonic : ScalarName → List ℕ
 scalar_mnemonic by_scalar.Add = codes "vadd"
 scalar_mnemonic by_scalar.Sub = codes "vsub"
@@ -245,7 +247,8 @@ complex_sum_suffix complex_sum.Cadd z = integer z
 complex_sum_suffix complex_sum.Hcadd z = signed z
 
 -- V10: VADD, VSUB and VMUL are of integers, VQDMULH and VQRDMULH of signed ones, and the others of either sign
--- (DDI0553, the sections named at the type V10)
+-- (DDI0553, the forms with a scalar of "VADD (vector)", "VSUB (vector)", "VMUL (vector)", "VHADD", "VHSUB", "VQADD", "VQSUB" and
+-- "VQDMULH, VQRDMULH (vector)", and "VMLA (vector by scalar plus vector)" and "VMLAS (vector by vector plus scalar)")
 abbrev pub scalar_suffix : ScalarName → ℕ → ℕ → List ℕ
 scalar_suffix by_scalar.Add u z = integer z
 scalar_suffix by_scalar.Sub u z = integer z

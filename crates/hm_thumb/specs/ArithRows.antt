@@ -118,7 +118,7 @@ long_row i r =
     let old = reg i.h.value r * 2 ^ 32 + reg i.l.value r in
     put_long i.l.value i.h.value (long_result i.name old (reg i.n.value r) (reg i.m.value r)) r
 
--- T11: MUL, SDIV, UDIV, MLA, MLS, SMULL, UMULL, SMLAL and UMLAL (DDI0553, "MUL" and the sections of these names)
+-- T11: MUL, SDIV, UDIV, MLA, MLS, SMULL, UMULL, SMLAL and UMLAL (DDI0553, "MUL", "MLA", "MLS", "SMULL", "UMULL", "SMLAL", "UMLAL", "SDIV" and "UDIV")
 abbrev pub t11 : T11 → Regs → Regs
 t11 (t11_.Operation i) r = operation_row i r
 t11 (t11_.Accumulate i) r = accumulate_row i r
