@@ -19,7 +19,7 @@ use Rattle.hm_isa.specs.declared.vectors.V3.{V3}
 use Rattle.hm_isa.specs.declared.vectors.V18.{V18}
 use Rattle.hm_isa.specs.Words.{imm16}
 
--- S4: MOVS, CMP, ADDS or SUBS rd,#x, as the name says
+-- S4: MOVS, CMP, ADDS or SUBS rd,#x, as the name says (DDI0553, "MOV (immediate)", "CMP (immediate)", "ADD (immediate)" and "SUB (immediate)")
 pub record IsByteRow (name : ByteName) (d x : ℕ) (i : Instr) : Type 0 where
   pub row : S4
   pub is : i ≡ instr.Scalar (scalar.S4 row)
@@ -27,7 +27,7 @@ pub record IsByteRow (name : ByteName) (d x : ℕ) (i : Instr) : Type 0 where
   pub d_is : row.d.value ≡ d
   pub x_is : row.i.value ≡ x
 
--- T4: MOVW or MOVT rd,#x, where four fields make the number
+-- T4: MOVW or MOVT rd,#x, where four fields make the number (DDI0553, "MOV (immediate)" and "MOVT")
 pub record IsHalfRow (name : HalfName) (d x : ℕ) (i : Instr) : Type 0 where
   pub row : T4
   pub is : i ≡ instr.Scalar (scalar.T4 row)
@@ -35,13 +35,13 @@ pub record IsHalfRow (name : HalfName) (d x : ℕ) (i : Instr) : Type 0 where
   pub d_is : row.d.value ≡ d
   pub x_is : imm16 row.i4.value row.i.value row.i3.value row.i8.value ≡ x
 
--- S18: BKPT #x
+-- S18: BKPT #x (DDI0553, "BKPT")
 pub record IsBreakpointRow (x : ℕ) (i : Instr) : Type 0 where
   pub row : S18
   pub is : i ≡ instr.Scalar (scalar.S18 row)
   pub x_is : row.i.value ≡ x
 
--- V18: VDUP qd,rt, of elements of a size
+-- V18: VDUP qd,rt, of elements of a size (DDI0553, "VDUP")
 pub record IsDuplicateRow (size : Element) (d t : ℕ) (i : Instr) : Type 0 where
   pub row : V18
   pub is : i ≡ instr.Vector (vector.V18 row)
@@ -49,7 +49,7 @@ pub record IsDuplicateRow (size : Element) (d t : ℕ) (i : Instr) : Type 0 wher
   pub d_is : row.d.value ≡ d
   pub t_is : row.t.value ≡ t
 
--- V1: VADD, VSUB or VMUL qd,qn,qm, as the name says, of elements of 8 * 2^z bits
+-- V1: VADD, VSUB or VMUL qd,qn,qm, as the name says, of elements of 8 * 2^z bits (DDI0553, "VADD (vector)", "VSUB (vector)" and "VMUL (vector)")
 pub record IsAddRow (z : ℕ) (name : AddName) (d n m : ℕ) (i : Instr) : Type 0 where
   pub row : V1
   pub is : i ≡ instr.Vector (vector.V1 row)
@@ -59,7 +59,7 @@ pub record IsAddRow (z : ℕ) (name : AddName) (d n m : ℕ) (i : Instr) : Type 
   pub n_is : row.n.value ≡ n
   pub m_is : row.m.value ≡ m
 
--- V2: VAND, VBIC, VORR, VORN or VEOR qd,qn,qm, as the name says
+-- V2: VAND, VBIC, VORR, VORN or VEOR qd,qn,qm, as the name says (DDI0553, "VAND", "VBIC (register)", "VORR", "VORN" and "VEOR")
 pub record IsBitwiseRow (name : BitwiseName) (d n m : ℕ) (i : Instr) : Type 0 where
   pub row : V2
   pub is : i ≡ instr.Vector (vector.V2 row)
@@ -68,7 +68,8 @@ pub record IsBitwiseRow (name : BitwiseName) (d n m : ℕ) (i : Instr) : Type 0 
   pub n_is : row.n.value ≡ n
   pub m_is : row.m.value ≡ m
 
--- V3: VMAX, VMIN or one of their kin, qd,qn,qm, of elements of 8 * 2^z bits, which have a sign where u is 0
+-- V3: VMAX, VMIN, VABD, VHADD, VRHADD, VHSUB, VQADD or VQSUB qd,qn,qm, as the name says, of elements of 8 * 2^z bits, with a sign where u is 0
+-- (DDI0553, "VMAX, VMAXA", "VMIN, VMINA", "VABD", "VHADD", "VRHADD", "VHSUB", "VQADD" and "VQSUB")
 pub record IsSignedRow (u z : ℕ) (name : SignedName) (d n m : ℕ) (i : Instr) : Type 0 where
   pub row : V3
   pub is : i ≡ instr.Vector (vector.V3 row)

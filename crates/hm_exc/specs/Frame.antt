@@ -39,7 +39,7 @@ progress it w = if is_between w then it % 4 * 2 ^ 25 + it / 4 * 2 ^ 10 else eci_
 unfoldable pub xpsr : Regs → Window → ℕ
 xpsr r w = flags r * 2 ^ 27 + progress r.it w + 2 ^ 24 + r.sp / 4 % 2 * 2 ^ 9 + r.ipsr
 
--- the words of every frame, and those that a frame has besides where there is a context: S0 to S15, FPSCR and VPR
+-- the words of every frame: r0 to r3, r12, lr, the return address and xPSR
 abbrev pub basic_words : Regs → Window → List ℕ
 basic_words r w = slice_index r.r 0 ∷ slice_index r.r 1 ∷ slice_index r.r 2 ∷ slice_index r.r 3 ∷ slice_index r.r 12 ∷ r.lr ∷ r.pc ∷ xpsr r w ∷ []
 

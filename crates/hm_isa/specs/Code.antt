@@ -777,7 +777,7 @@ one_half c = c ∷ []
 abbrev pub two_halves : ℕ → List ℕ
 two_halves c = c / 65536 ∷ c % 65536 ∷ []
 
--- the code of an instruction of the rows S1 to S21 and S23 to S25
+-- the code of an instruction of the rows S1 to S21 and S23 to S25 (DDI0553, "T32 instruction set encoding", the 16-bit codes)
 abbrev pub narrow_code : NarrowRow → ℕ
 narrow_code (narrow.S1 r) = code_s1 r
 narrow_code (narrow.S2 r) = code_s2 r
@@ -804,7 +804,7 @@ narrow_code (narrow.S23 r) = code_s23 r
 narrow_code (narrow.S24 r) = code_s24 r
 narrow_code (narrow.S25 r) = code_s25 r
 
--- the code of an instruction of the rows T1 to T23, the first halfword in bits 31 to 16
+-- the code of an instruction of the rows T1 to T23, the first halfword in bits 31 to 16 (DDI0553, "T32 instruction set encoding", the 32-bit codes)
 abbrev pub wide_code : WideRow → ℕ
 wide_code (wide.T1 r) = code_t1 r
 wide_code (wide.T2 r) = code_t2 r
@@ -830,7 +830,7 @@ wide_code (wide.T21 r) = code_t21 r
 wide_code (wide.T22 r) = code_t22 r
 wide_code (wide.T23 r) = code_t23 r
 
--- the code of an instruction of the rows V1 to V28, the first halfword in bits 31 to 16
+-- the code of an instruction of the rows V1 to V28, the first halfword in bits 31 to 16 (DDI0553, "M-profile Vector Extension")
 abbrev pub vector_code : Vector → ℕ
 vector_code (vector.V1 r) = code_v1 r
 vector_code (vector.V2 r) = code_v2 r

@@ -28,7 +28,7 @@ use Rattle.hm_kernel_lang.specs.Language.{is_signed}
 use Rattle.hm_kernel_lang.specs.Machine.{Kind, Clear, Low, High, LowLength, HighLength, Offset, Splat, Load, Store, Do, Further, Item, Plain, Begin, Again}
 use Rattle.hm_kernel_lang.specs.Machine.{Stop, size_code}
 
--- add rd,rm
+-- S6: ADD rd,rm (DDI0553, "ADD (register)")
 pub record IsSumRow (d m : ℕ) (i : Instr) : Type 0 where
   pub row : S6
   pub is : i ≡ instr.Scalar (scalar.S6 row)
@@ -44,7 +44,8 @@ element_name S16 = element.Halves
 element_name U32 = element.Words
 element_name S32 = element.Words
 
--- a load or a store of qd at [rn], of elements as they stand
+-- V24: a load or a store of qd at [rn], of elements as they stand: VLDRB, VLDRH, VLDRW, VSTRB, VSTRH or VSTRW
+-- (DDI0553, "VLDRB, VLDRH, VLDRW" and "VSTRB, VSTRH, VSTRW")
 pub record IsMoveRow (t : ElementType) (l d n : ℕ) (i : Instr) : Type 0 where
   pub row : V24
   pub is : i ≡ instr.Vector (vector.V24 row)
@@ -57,7 +58,8 @@ pub record IsMoveRow (t : ElementType) (l d n : ℕ) (i : Instr) : Type 0 where
   pub d_is : row.d.value ≡ d
   pub n_is : row.n.value ≡ n
 
--- the instruction of an operation on registers q and q + 1 that leaves its result in q, of V1, V2 or V3
+-- the instruction of an operation on registers q and q + 1 that leaves its result in q, of V1, V2 or V3: VADD, VSUB, VMUL, VMIN, VMAX, VAND,
+-- VORR or VEOR (DDI0553, "VADD (vector)", "VSUB (vector)", "VMUL (vector)", "VMIN, VMINA", "VMAX, VMAXA", "VAND", "VORR" and "VEOR")
 abbrev pub IsOperation : ElementType → Op → ℕ → Instr → Type 0
 IsOperation t op.Add q i = IsAddRow (size_code t) add.Add q q (q + 1) i
 IsOperation t op.Sub q i = IsAddRow (size_code t) add.Sub q q (q + 1) i
@@ -68,7 +70,7 @@ IsOperation t op.And q i = IsBitwiseRow bitwise.And q q (q + 1) i
 IsOperation t op.Or q i = IsBitwiseRow bitwise.Orr q q (q + 1) i
 IsOperation t op.Xor q i = IsBitwiseRow bitwise.Eor q q (q + 1) i
 
--- wlstp lr,r6, over so many halfwords
+-- T23: WLSTP lr,r6, forward by so many halfwords (DDI0553, "WLS, DLS, WLSTP, DLSTP")
 pub record IsBeginRow (t : ElementType) (h : ℕ) (i : Instr) : Type 0 where
   pub row : Wlstp
   pub is : i ≡ instr.Branch (branch.T23 (t23.Wlstp row))
@@ -76,7 +78,7 @@ pub record IsBeginRow (t : ElementType) (h : ℕ) (i : Instr) : Type 0 where
   pub n_is : row.n.value ≡ 6
   pub v_is : row.v.value ≡ h
 
--- letp lr, back over so many halfwords
+-- T23: LETP lr, back by so many halfwords (DDI0553, "LE, LETP")
 pub record IsAgainRow (h : ℕ) (i : Instr) : Type 0 where
   pub row : LoopEnd
   pub is : i ≡ instr.Branch (branch.T23 (t23.End row))

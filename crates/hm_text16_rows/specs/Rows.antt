@@ -43,7 +43,8 @@ abbrev pub jump_tokens : JumpRow → List Tok
 jump_tokens (s25.Conditional i) = word (branch_mnemonic i.c.value) ∷ []
 jump_tokens (s25.Always i) = word (codes "b") ∷ []
 
--- the tokens of each row; of S14, S24 and S25, which have a label, those before it
+-- the tokens of each row; of S14, S24 and S25, which have a label, those before it; S6: ADD, S7: CMP, S8: MOV, S9: ADD, S14: LDR, S18: BKPT
+-- (DDI0553, "ADD (register)", "CMP (register)", "MOV (register)", "ADR", "ADD (SP plus immediate)", "LDR (literal)" and "BKPT")
 abbrev pub row_tokens : NarrowRow → List Tok
 row_tokens (narrow.S1 i) = and_constant (two (shift_mnemonic i.name) (r i.d.value) (r i.m.value)) (shift_amount i.name i.i.value)
 row_tokens (narrow.S2 i) = three (sum_mnemonic i.name) (r i.d.value) (r i.n.value) (r i.m.value)
@@ -70,7 +71,7 @@ row_tokens (narrow.S23 i) = one (jump_mnemonic i.name) (r i.m.value)
 row_tokens (narrow.S24 i) = word (zero_mnemonic i.name) ∷ r i.n.value ∷ comma ∷ []
 row_tokens (narrow.S25 i) = jump_tokens i
 
--- whether the last operand of a row is a label: S14, S24, S25
+-- whether the last operand of a row is a label: S14, S24 and S25: LDR of a literal, CBZ and CBNZ, and B (DDI0553, "LDR (literal)", "CBNZ, CBZ" and "B")
 abbrev pub has_label : NarrowRow → Bool
 has_label (narrow.S14 i) = true
 has_label (narrow.S24 i) = true

@@ -326,7 +326,9 @@ IsShiftedCode base n d m ty k code =
     → code ≡ base + ty ↑ 4 + n ↑ 16 + i.i3.value ↑ 12 + d ↑ 8 + i.i2.value ↑ 6 + m
 
 -- CODES BY MNEMONICS that no row of T1, T2 and T8 has: what a mnemonic and operands are given, by groups of rows, one within the other
--- T17 to T19, T21 and T22, and T23 with no label
+-- T17 to T19, T21 and T22, and T23 with no label: TBB, TBH, MRS, MSR, NOP, DSB, DMB, ISB, VMRS, VMSR, VMOV of a word, DLS, DLSTP and LCTP
+-- (DDI0553, "TBB, TBH", "MRS", "MSR (register)", "NOP", "DSB", "DMB", "ISB", "VMRS", "VMSR", "VMOV (general-purpose register to vector lane)",
+-- "VMOV (vector lane to general-purpose register)", "WLS, DLS, WLSTP, DLSTP" and "LCTP")
 pub record SystemCodes (s : List ℕ) (o : Operands) (code : Option ℕ) : Type 0 where
   pub t17 : IsCodeOf wide.T17 s o code
   pub read : IsCodeOf (λ i. wide.T18 (t18.Read i)) s o code
@@ -340,7 +342,9 @@ pub record SystemCodes (s : List ℕ) (o : Operands) (code : Option ℕ) : Type 
   pub dlstp : IsCodeOf (λ i. wide.T23 (t23.Dlstp i)) s o code
   pub lctp : s ≡ codes "lctp" → code ≡ Some (wide_code (wide.T23 t23.Lctp))
 
--- T12 to T15
+-- T12 to T15, and the codes above: LDR, STR and their kin, LDRD, STRD, STMIA, LDMIA, STMDB, LDMDB, VPUSH and VPOP
+-- (DDI0553, "LDR (immediate)", "LDR (literal)", "LDR (register)" and their kin, "STRD (immediate)", "LDRD (immediate)", "LDRD (literal)",
+-- "STM, STMIA, STMEA", "LDM, LDMIA, LDMFD", "STMDB, STMFD", "LDMDB, LDMEA", "VPUSH" and "VPOP")
 pub record MemoryCodes (s : List ℕ) (o : Operands) (code : Option ℕ) : Type 0 where
   pub offset : IsCodeOf (λ i. wide.T12 (t12.Offset i)) s o code
   pub indexed : IsCodeOf (λ i. wide.T12 (t12.Indexed i)) s o code
@@ -351,7 +355,9 @@ pub record MemoryCodes (s : List ℕ) (o : Operands) (code : Option ℕ) : Type 
   pub t15 : IsCodeOf wide.T15 s o code
   pub system : SystemCodes s o code
 
--- T9 to T11 and T20
+-- T9 to T11 and T20, and the codes above: SXTH, UXTH, SXTB, UXTB, REV, REV16, RBIT, REVSH, CLZ, products and quotients, CSEL, CSINC, CSINV and CSNEG
+-- (DDI0553, "SXTH", "UXTH", "SXTB", "UXTB", "REV", "REV16", "REVSH", "RBIT", "CLZ", "MUL", "MLA", "MLS", "SMULL", "UMULL", "SMLAL", "UMLAL", "SDIV",
+-- "UDIV", "CSEL", "CSINC", "CSINV" and "CSNEG")
 pub record ArithCodes (s : List ℕ) (o : Operands) (code : Option ℕ) : Type 0 where
   pub t9 : IsCodeOf wide.T9 s o code
   pub t10 : IsCodeOf wide.T10 s o code
@@ -361,7 +367,8 @@ pub record ArithCodes (s : List ℕ) (o : Operands) (code : Option ℕ) : Type 0
   pub t20 : IsCodeOf wide.T20 s o code
   pub memory : MemoryCodes s o code
 
--- T3 to T7
+-- T3 to T7, and the codes above: ADDW, SUBW, MOVW, MOVT, SSAT, USAT, SBFX, UBFX, BFI and BFC
+-- (DDI0553, "ADD (immediate)", "SUB (immediate)", "ADR", "MOV (immediate)", "MOVT", "SSAT", "USAT", "SBFX", "UBFX", "BFI" and "BFC")
 pub record NumberCodes (s : List ℕ) (o : Operands) (code : Option ℕ) : Type 0 where
   pub t3 : IsCodeOf wide.T3 s o code
   pub t4 : IsCodeOf wide.T4 s o code
@@ -370,7 +377,7 @@ pub record NumberCodes (s : List ℕ) (o : Operands) (code : Option ℕ) : Type 
   pub t7 : IsCodeOf wide.T7 s o code
   pub arith_rows : ArithCodes s o code
 
--- T16, and T23 with a label
+-- T16, and T23 with a label, and the codes above: B, BL, WLS, WLSTP, LE and LETP (DDI0553, "B", "BL", "WLS, DLS, WLSTP, DLSTP" and "LE, LETP")
 pub record LabelCodes (s : List ℕ) (o : Operands) (pc a : ℕ) (code : Option ℕ) : Type 0 where
   pub conditional : IsCodeAt (λ i. wide.T16 (t16.Conditional i)) s o pc a code
   pub always : IsCodeAt (λ i. wide.T16 (t16.Always i)) s o pc a code

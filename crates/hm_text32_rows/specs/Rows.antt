@@ -223,7 +223,8 @@ has_label_loop (t23.Wlstp i) = true
 has_label_loop (t23.End i) = true
 has_label_loop t23.Lctp = false
 
--- whether the last operand of a row is a label: T16, and `wls`, `wlstp`, `le`, `letp` of T23
+-- whether the last operand of a row is a label: T16, and WLS, WLSTP, LE and LETP of T23
+-- (DDI0553, "B", encodings T3 and T4, "BL", "WLS, DLS, WLSTP, DLSTP" and "LE, LETP")
 abbrev pub has_label : WideRow → Bool
 has_label (T16 i) = true
 has_label (T23 i) = has_label_loop i
@@ -238,7 +239,7 @@ abbrev pub other_barrier : BarrierRow → Option (List Tok)
 other_barrier t19.Nop = None
 other_barrier (t19.Barrier i) = if nat_eq i.o.value 15 then Some (word (barrier_mnemonic i.name) ∷ []) else None
 
--- the other text of a row, where it has one: T19 alone has one
+-- the other text of a row, where it has one: DSB, DMB and ISB of T19 alone have one (DDI0553, "DSB", "DMB" and "ISB")
 abbrev pub other_tokens : WideRow → Option (List Tok)
 other_tokens (T19 i) = other_barrier i
 other_tokens i = None

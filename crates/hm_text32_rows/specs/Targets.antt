@@ -22,6 +22,7 @@ loop_target (t23.End i) pc = Some (behind pc (2 ^ 32 - 2 * i.v.value))
 loop_target i pc = None
 
 -- the address that the label of a row of two halfwords names, where the instruction stands at pc: T16 and T23; None where it has none
+-- (DDI0553, "B", encodings T3 and T4, "BL", "WLS, DLS, WLSTP, DLSTP" and "LE, LETP")
 abbrev pub target : WideRow → ℕ → Option ℕ
 target (T16 i) pc = Some (wide_target i pc)
 target (T23 i) pc = loop_target i pc

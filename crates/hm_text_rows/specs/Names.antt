@@ -25,19 +25,20 @@ with_bits (name ∷ names) = (name, 0) ∷ (name, 1) ∷ with_bits names
 abbrev pub named_with_bit : {A : Type 0} → (A → ℕ → List ℕ) → List A → List ℕ → Option (A × ℕ)
 named_with_bit {A} mnemonic names s = named (λ (p : A × ℕ). mnemonic p.0 p.1) (with_bits names) s
 
--- S21, V20 and V21: the masks of a block
+-- S21, V20 and V21: the masks of a block that IT, VPT and VPST begin (DDI0553, "IT", "VPT" and "VPST")
 abbrev pub block_masks : List ℕ
 block_masks = 1 ∷ 2 ∷ 3 ∷ 4 ∷ 5 ∷ 6 ∷ 7 ∷ 8 ∷ 9 ∷ 10 ∷ 11 ∷ 12 ∷ 13 ∷ 14 ∷ 15 ∷ []
 
 -- NAMES THAT ROWS OF ONE HALFWORD AND OF TWO SHARE
--- S2, S3, S10 and T3: the sum and the difference
+-- S2, S3, S10 and T3: ADD and SUB (DDI0553, "ADD (register)", "ADD (immediate)", "ADD (SP plus immediate)" and their kin)
 abbrev pub sum_names : List SumName
 sum_names = sum_.Add ∷ sum_.Sub ∷ []
 
--- S11 and T9: SXTH, SXTB, UXTH and UXTB
+-- S11 and T9: SXTH, SXTB, UXTH and UXTB (DDI0553, "SXTH", "SXTB", "UXTH" and "UXTB")
 abbrev pub extend_names : List ExtendName
 extend_names = extend.Sxth ∷ extend.Sxtb ∷ extend.Uxth ∷ extend.Uxtb ∷ []
 
 -- S15 and T12: STR, STRH, STRB, LDRSB, LDR, LDRH, LDRB and LDRSH
+-- (DDI0553, "STR (register)", "LDR (immediate)", "LDR (literal)", "LDR (register)" and their kin)
 abbrev pub access_names : List AccessName
 access_names = access.Str ∷ access.Strh ∷ access.Strb ∷ access.Ldrsb ∷ access.Ldr ∷ access.Ldrh ∷ access.Ldrb ∷ access.Ldrsh ∷ []

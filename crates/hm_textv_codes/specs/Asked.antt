@@ -222,7 +222,7 @@ IsCodeOf {A} row s o code = (i : A) → Asks (row i) s o → code ≡ Some (vect
 abbrev pub IsOtherCodeOf : {A : Type 0} → (A → Vector) → List ℕ → Operands → Option ℕ → Type 0
 IsOtherCodeOf {A} row s o code = (i : A) → AsksOther (row i) s o → code ≡ Some (vector_code (row i))
 
--- V15: the number of a mnemonic and operands are those of this row
+-- V15: the number of a mnemonic and operands are those of this row (DDI0553, "VMOV (immediate)", "VMVN (immediate)", "VORR (immediate)" and "VBIC (immediate)")
 abbrev pub AsksConstant : V15 → ℕ → Operands → Type 0
 AsksConstant i k o = (k ≡ constant_number i.op.value i.cm.value) × (o ≡ operands_of (vector.V15 i))
 

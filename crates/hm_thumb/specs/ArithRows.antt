@@ -64,7 +64,7 @@ bits_of bits.Clz x = leading_zeros w32 x
 abbrev pub t10 : T10 → Regs → Regs
 t10 i r = put i.d.value (bits_of i.name (reg i.m.value r)) r
 
--- -x, and the magnitude of x as a number with its sign
+-- -x as a word
 abbrev pub negated : ℕ → ℕ
 negated x = (2 ^ 32 - x) % 2 ^ 32
 

@@ -33,11 +33,11 @@ abbrev pub imm_shift_c : ℕ → ℕ → ℕ → Bool → Shifted
 imm_shift_c ty k x carry = if is_by_carry ty k then rrx_c x carry else shift_c (shift_type ty) x (shift_number ty k) carry
 
 -- THE ROWS
--- register d gets a result, if there is one
+-- register d gets a result; 15 stands for no register
 abbrev pub put_if : ℕ → ℕ → Regs → Regs
 put_if d x r = cond (nat_eq d 15) r (put d x r)
 
--- with s the flags tell it, in an IT block too
+-- register d, if there is one, gets a result; with s the flags N, Z and C tell it, in an IT block too
 abbrev pub put_bits : ℕ → ℕ → ℕ → Bool → Regs → Regs
 put_bits s d x carry r = let t = put_if d x r in cond (nat_eq s 1) (with_nzc (record { result = x; carry = carry }) t) t
 

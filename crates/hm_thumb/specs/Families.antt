@@ -5,7 +5,8 @@ use Rattle.hm_isa.specs.declared.Instr.TheVariants as instr
 use Rattle.hm_isa.specs.declared.Scalar.{Scalar}
 use Rattle.hm_isa.specs.declared.Scalar.TheVariants as scalar
 
--- whether a scalar row loads or stores: S14 to S17, S20, and T12 to T15
+-- whether a scalar row loads or stores: S14 to S17, S20, and T12 to T15, which are LDR, STR, PUSH, POP, LDM, STM, LDRD, STRD, VPUSH, VPOP and
+-- their kin (DDI0553, the sections named at these rows' types)
 abbrev pub loads_or_stores : Scalar → Bool
 loads_or_stores (scalar.S14 i) = true
 loads_or_stores (scalar.S15 i) = true
@@ -28,7 +29,8 @@ abbrev pub is_register_row : Instr → Bool
 is_register_row (instr.Scalar i) = not (loads_or_stores i)
 is_register_row i = false
 
--- whether an instruction is of a branch row: S23 to S25, T16, T17 and T23
+-- whether an instruction is of a branch row: S23 to S25, T16, T17 and T23, which are BX, CBZ, B, BL, TBB, WLS, LE and their kin
+-- (DDI0553, the sections named at these rows' types)
 abbrev pub is_branch_row : Instr → Bool
 is_branch_row (instr.Branch i) = true
 is_branch_row i = false

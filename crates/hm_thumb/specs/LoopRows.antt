@@ -16,7 +16,7 @@ use Rattle.hm_thumb.specs.BranchRows.{branch_if}
 use Rattle.hm_thumb.specs.Does.{Does, Faults, goes}
 use Rattle.hm_thumb.specs.RegisterRows.{reg, put}
 
--- LTPSIZE
+-- the registers with this LTPSIZE
 abbrev pub put_size : ℕ → Regs → Regs
 put_size z r = with_value Ltp z r
 

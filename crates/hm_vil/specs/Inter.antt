@@ -3,7 +3,7 @@ use Rattle.std.specs.Prelude.{Bool, true, false}
 use Rattle.hm_isa.specs.declared.Vector.{Vector}
 use Rattle.hm_isa.specs.declared.Vector.TheVariants.{V28}
 
--- V28: whether a row is of this family (VLD2, VLD4, VST2 and VST4)
+-- V28: whether a row is of this family (VLD2, VLD4, VST2 and VST4) (DDI0553, "VLD2", "VLD4", "VST2" and "VST4")
 abbrev pub is_inter : Vector → Bool
 is_inter (V28 i) = true
 is_inter v = false
