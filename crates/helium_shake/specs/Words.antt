@@ -21,6 +21,7 @@ asked_in image schedule runs seed =
     (option_and_then runs_of (number_in runs))
 
 -- WHAT THE WORDS ASK FOR
+-- what four words ask for; no other number of words asks for anything
 abbrev pub asked_of : List (List ℕ) → Option Asked
 asked_of (image ∷ schedule ∷ runs ∷ seed ∷ []) = asked_in image schedule runs seed
 asked_of words = None

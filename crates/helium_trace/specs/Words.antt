@@ -31,6 +31,7 @@ asked_in image schedule first last page =
     (source_of schedule)
 
 -- WHAT THE WORDS ASK FOR
+-- what four words ask for, or six of which the fifth is `--html`; no others ask for anything
 abbrev pub asked_of : List (List ℕ) → Option Asked
 asked_of (image ∷ schedule ∷ first ∷ last ∷ []) = asked_in image schedule first last None
 asked_of (image ∷ schedule ∷ first ∷ last ∷ option ∷ out ∷ []) =

@@ -18,8 +18,7 @@ use Rattle.hm_moves.specs.Ways.{Found, Transfer, way_predicated}
 use Rattle.hm_rows.specs.Rows.{Kind, Moves, Registers}
 use Rattle.hm_whole.specs.Whole.{seen_in}
 
--- 1. WHAT BEGINS ON THE FIRST BEAT
--- what begins anew there goes on from where it stands on the others: VADCI as VADC, and VSBCI as VSBC
+-- V8: what begins anew on the first beat goes on from where it stands on the others: VADCI as VADC, and VSBCI as VSBC (DDI0553, "VADC" and "VSBC")
 abbrev pub goes_on_name : CarryName → CarryName
 goes_on_name carry.Adci = carry.Adc
 goes_on_name carry.Sbci = carry.Sbc
@@ -55,12 +54,12 @@ is_predicate c = false
 abbrev pub with_predicate : State → State → State
 with_predicate v w = record { cell = λ c. cond (is_predicate c) (v.cell c) (w.cell c); sticky = w.sticky; pc = w.pc; rest = w.rest }
 
--- VPSEL reads P0 as data, also where no predicate is in force, so the whole is that of P0 and the masks as they stand
+-- V21: VPSEL reads P0 as data, also where no predicate is in force, so the whole is that of P0 and the masks as they stand (DDI0553, "VPSEL")
 abbrev pub chooses_by_predicate : Form → Bool
 chooses_by_predicate (form.Select r) = true
 chooses_by_predicate f = false
 
--- 4. REGISTERS THAT TAKE ELEMENTS IN TURN, by VLD2, VLD4, VST2 and VST4: they are under no predicate
+-- V28: whether registers take elements in turn (DDI0553, "VLD2", "VLD4", "VST2" and "VST4")
 abbrev pub takes_turns : Found → Bool
 takes_turns w = not (way_predicated w)
 

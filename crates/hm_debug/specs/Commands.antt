@@ -11,7 +11,7 @@ use Rattle.hm_debug.specs.declared.command.Command.TheVariants.{Goto, Step, Back
 abbrev pub range_text : ℕ → ℕ → List ℕ
 range_text addr n = hex8 addr ++ codes " " ++ decimal n
 
--- a line without its end
+-- the line of a command, without its end
 abbrev pub command_text : Command → List ℕ
 command_text (Goto n) = codes "goto " ++ decimal n
 command_text Step = codes "step"

@@ -5,7 +5,7 @@ use Rattle.std.specs.List.{AllByRecursion, starts_with}
 use Rattle.hm_base.specs.Image.{Segment, segment, with_segment, word_at, flash_size, flat, IsImage}
 use Rattle.hm_elf.specs.declared.reading.ProgramHeader.{ProgramHeader}
 
--- the numbers of two and of four bytes that begin at a place
+-- the number of two bytes that begin at a place, lowest byte first
 abbrev pub half : List ℕ → ℕ → ℕ
 half bytes at = slice_index bytes at + 0x100 * slice_index bytes (at + 1)
 
@@ -13,11 +13,11 @@ half bytes at = slice_index bytes at + 0x100 * slice_index bytes (at + 1)
 abbrev pub word : List ℕ → ℕ → ℕ
 word bytes at = word_at (slice_index bytes) at
 
--- the bytes of the file header, and of a program header
+-- how many bytes the file header has
 abbrev pub header_size : ℕ
 header_size = 52
 
--- the bytes of a program header
+-- how many bytes a program header has
 abbrev pub entry_size : ℕ
 entry_size = 32
 
@@ -102,7 +102,7 @@ loading (h ∷ hs) = if loads h then h ∷ loading hs else loading hs
 abbrev pub loaded : List ℕ → ProgramHeader → Segment
 loaded bytes h = segment h.address (take h.file_size (drop h.offset bytes))
 
--- they lie in the file, and there is room for them in memory
+-- the bytes that a program header loads lie in the file, and there is room for them in memory
 abbrev pub IsLoaded : List ℕ → ProgramHeader → Type 0
 IsLoaded bytes h = (h.offset + h.file_size ≤ length bytes) × (h.file_size ≤ h.memory_size)
 

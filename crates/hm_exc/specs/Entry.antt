@@ -78,6 +78,7 @@ abbrev pub process_after : Activation → ℕ
 process_after x = process_above x.regs x.frame
 
 -- THE MEMORY after the entry that put an activation away: the bytes of its frame are written and tainted, and its exception is no longer pending
+-- whether an address lies in the frame of an activation
 abbrev pub in_frame : Activation → ℕ → Bool
 in_frame x a = covers x.frame (frame_size x.long) a
 

@@ -96,7 +96,7 @@ handles M around (Ok (instr.Branch i)) c x acts = went M c x acts (scalar_in_mac
 handles M around (Ok (instr.Vector v)) c x acts = with_acts (x ∷ acts) (uncounted c (older M c))
 handles M around (Err f) c x acts = with_acts (x ∷ acts) (uncounted c (older M c))
 
--- A STEP of the older instruction, or of the younger
+-- A STEP of the older instruction, or of the younger, in a handler
 abbrev pub handler_step : Listing → Sched → InFlight → Config State → Interrupted → List Interrupted → NestedStep
 handler_step listing s Older c x acts = handles (program_under listing s (x ∷ acts)) (around_under s (x ∷ acts)) (listing c.state.pc) c x acts
 handler_step listing s Younger c x acts = with_acts (x ∷ acts) (uncounted c (younger (program_under listing s (x ∷ acts)) c))

@@ -16,7 +16,7 @@ pub record Registers : Type 0 where
   pub pc : ℕ
   pub beside : Rest
 
--- without devices, output and who accesses the memory
+-- what stands in no place, without devices, output and who accesses the memory
 abbrev pub bare : Rest → Rest
 bare r = record r { devices = first_devices; output = []; around = thread_under no_bounds }
 
@@ -33,12 +33,12 @@ registers_of r = record {
   beside = rest_with r first_devices (thread_under no_bounds) [];
 }
 
--- The state with these registers, in which this actor accesses the memory: the bytes, the devices and the output stay.
+-- what each cell holds where the places get back what stood in them, and the bytes stay
 abbrev pub cell_back : Registers → State → Cell → Value
 cell_back r s (At p) = r.place p
 cell_back r s (Byte a) = s.cell (Byte a)
 
--- the whole of that state, to which a return goes back
+-- the state with these registers, in which this actor accesses the memory: the bytes, the devices and the output stay
 abbrev pub restored : Registers → Actor → State → State
 restored r actor s = record {
   cell = cell_back r s;

@@ -28,7 +28,7 @@ pub record Pointers : Type 0 where
   pub process : ℕ
   pub from_process : Bool
 
--- those of these registers
+-- the pointers of these registers
 abbrev pub pointers_of : Regs → Pointers
 pointers_of r = record { main = main_of r; process = process_of r; from_process = uses_process r }
 
@@ -52,6 +52,7 @@ abbrev pub begin : List Segment → Sched → Run
 begin image s = record { outcome = None; machine = record { config = at_start (start_under (bounds_of s) image); acts = [] }; ticks = 0; entries = [] }
 
 -- THE END OF A TICK in which something did not go on
+-- a run that ended so, after so many ticks
 abbrev pub run_at : Outcome → Config State → List Interrupted → ℕ → List Pointers → Run
 run_at o c acts t entries = record { outcome = Some o; machine = record { config = c; acts = acts }; ticks = t; entries = entries }
 
@@ -70,6 +71,7 @@ stops t k younger (Offends what c acts) entries = run_at (outcome.HandlerBroken 
 
 -- THE END OF A TICK that did not end the run: the position is judged, SysTick counts, the tick's interrupts become pending, and then, where
 -- the schedule has entries, the exception that is picked enters
+-- exception e enters, or where it is refused the run ends
 abbrev pub enters_unless : Sched → ℕ → Option EnterErr → Run → Run
 enters_unless s e None x = record x { machine = entered s e x.machine; entries = pointers_of (regs_of x.machine.config.state) ∷ x.entries }
 enters_unless s e (Some why) x = record x { outcome = Some (refused x.ticks x.machine.config why) }

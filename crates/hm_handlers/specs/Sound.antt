@@ -49,6 +49,7 @@ abbrev pub FitsInside : Config State → Type 0
 FitsInside c = is_between (position_of c) ≡ false → (c.state.rest.it ≡ 0) × (c.state.rest.fpca ≡ true)
 
 -- WHAT ALWAYS HOLDS
+-- who accesses the memory, the priorities, the exception number, the stack, the IT byte, the position, and what entries put away all fit together
 pub record IsSound (s : Sched) (x : Nested) : Type 0 where
   pub around : x.config.state.rest.around ≡ around_under s x.acts
   pub levels : HasLevels x.config.state.rest.devices

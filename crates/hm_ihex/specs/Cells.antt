@@ -43,7 +43,7 @@ unfoldable pub runs : ℕ → List (Option ℕ) → List Segment
 runs a [] = []
 runs a (c ∷ cs) = onto_runs a c (runs (a + 1) cs)
 
--- the given cells in front
+-- the bytes of the given cells in front, up to the first that is not given
 unfoldable pub front_of : List (Option ℕ) → List ℕ
 front_of [] = []
 front_of (None ∷ cs) = []

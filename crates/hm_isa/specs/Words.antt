@@ -4,7 +4,7 @@ use Rattle.hm_isa.specs.declared.words.Shifted.{Shifted}
 use Rattle.hm_isa.specs.declared.words.ShiftType.{ShiftType}
 use Rattle.hm_isa.specs.declared.words.ShiftType.TheVariants.{Lsl, Lsr, Asr, Ror}
 
--- bit 31
+-- whether bit 31 is set: the sign of a word
 abbrev pub negative : ℕ → Bool
 negative x = nat_le (2 ^ 31) x
 

@@ -22,6 +22,7 @@ pub record Journaled : Type 0 where
   pub checkpoints : List ReportAt
 
 -- AS A VALUE. A number stands here as one that has no minus sign, no fraction and no exponent.
+-- a checkpoint as a JSON value
 abbrev pub checkpoint_data : ReportAt → Data
 checkpoint_data x = object (member (codes "report") (string x.report) (member (codes "tick") (number (unsigned x.tick)) no_members))
 
@@ -33,6 +34,7 @@ journal_data j =
     (member (codes "format") (number (unsigned j.format)) no_members)))
 
 -- AS TEXT, byte for byte
+-- a checkpoint as its compact JSON text
 abbrev pub checkpoint_text : ReportAt → List ℕ
 checkpoint_text x = codes "{\"report\":" ++ quoted x.report ++ codes ",\"tick\":" ++ decimal x.tick ++ codes "}"
 
@@ -74,6 +76,7 @@ abbrev pub AreSmall : List ReportAt → Type 0
 AreSmall xs = (k : ℕ) (x : ReportAt) → slice_get xs k ≡ Some x → x.tick < 2 ^ 32
 
 -- AS BYTES: what reads as a journal. A text has one reading at most, in which the last of two members of one name counts.
+-- bytes that read as a JSON value
 abbrev pub Reads : List ℕ → Data → Type 0
 Reads bytes d = IsUtf8 bytes × (read bytes ≡ Some d)
 

@@ -13,7 +13,7 @@ array_segment t x = segment x.addr (element_bytes t (length x.values.items) (λ 
 abbrev pub with_array : ElementType → Array → List Segment → List Segment
 with_array t x image = if nat_eq (length x.values.items) 0 then image else with_segment (array_segment t x) image
 
--- the last array comes first
+-- an image with the segments of arrays, of which the last is put in first
 abbrev pub with_arrays : ElementType → List Array → List Segment → List Segment
 with_arrays t [] image = image
 with_arrays t (x ∷ xs) image = with_array t x (with_arrays t xs image)

@@ -12,7 +12,7 @@ use Rattle.hm_kernel_lang.specs.declared.text.Expr.{Expr}
 use Rattle.hm_kernel_lang.specs.declared.text.Expr.TheVariants.{Name, Number, Apply'}
 
 -- TYPES OF ELEMENTS
--- how many bytes an element has, how many elements a vector register, and how many numbers an element holds
+-- how many bytes an element has
 abbrev pub bytes : ElementType → ℕ
 bytes U8 = 1
 bytes S8 = 1

@@ -50,11 +50,11 @@ type_text S32 = codes "type s32"
 abbrev pub length_text : ℕ → List ℕ
 length_text n = codes "length " ++ decimal n
 
--- one space separates words
+-- the line of an array: its words with one space between them
 abbrev pub array_text : WrittenArray → List ℕ
 array_text a = join_with_byte space (codes "array" ∷ a.name ∷ hex8 a.addr ∷ map decimal a.values)
 
--- a name, an equals sign and an expression
+-- the line that sets an array: a name, an equals sign and an expression
 abbrev pub set_text : WrittenSet → List ℕ
 set_text s = join_with_byte space (codes "set" ∷ s.name ∷ codes "=" ∷ tree_text s.expr ∷ [])
 
@@ -91,7 +91,7 @@ abbrev pub AreArrays : ElementType → ℕ → List WrittenArray → List Writte
 AreArrays t n before [] = Unit {0}
 AreArrays t n before (a ∷ more) = IsNewArray t n before a × AreArrays t n (before ++ a ∷ []) more
 
--- an array's name
+-- a name is that of one of these arrays
 abbrev pub IsThere : List WrittenArray → List ℕ → Type 0
 IsThere [] name = ⊥
 IsThere (a ∷ more) name = (a.name ≡ name) ⊎ IsThere more name

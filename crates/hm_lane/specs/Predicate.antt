@@ -71,7 +71,7 @@ is_unpredicated s = eqb (mask_of 0 s) 0 && eqb (mask_of 2 s) 0 && leb 4 (value_a
 abbrev pub bits_of_word : ℕ → ℕ → List Bool
 bits_of_word p b = eqb (bit_at p (4 * b)) 1 ∷ eqb (bit_at p (4 * b + 1)) 1 ∷ eqb (bit_at p (4 * b + 2)) 1 ∷ eqb (bit_at p (4 * b + 3)) 1 ∷ []
 
--- those of all four words
+-- the truth values that a number of 16 bits has for all four words
 abbrev pub truths_of : ℕ → List Bool
 truths_of p = bits_of_word p 0 ++ bits_of_word p 1 ++ bits_of_word p 2 ++ bits_of_word p 3
 
@@ -80,7 +80,7 @@ truths_of p = bits_of_word p 0 ++ bits_of_word p 1 ++ bits_of_word p 2 ++ bits_o
 abbrev pub byte_active : Regs → ℕ → Bool
 byte_active s k = allowed (value_at (cond (ltb k 8) Mask01 Mask23) s) s.vpr k && in_tail s k
 
--- a truth value for each byte
+-- the predicate of a vector register: whether each of its 16 bytes is active
 abbrev pub predicate_of : Regs → List Bool
 predicate_of s = map (byte_active s) (0 ∷ 1 ∷ 2 ∷ 3 ∷ 4 ∷ 5 ∷ 6 ∷ 7 ∷ 8 ∷ 9 ∷ 10 ∷ 11 ∷ 12 ∷ 13 ∷ 14 ∷ 15 ∷ [])
 
@@ -90,7 +90,7 @@ abbrev pub finish_writes : ℕ → ℕ → ℕ → Regs → List Write
 finish_writes d b new s = write (QWord (4 * d + b)) (word_of (merged (active_word s b) (bytes_of (value_at (QWord (4 * d + b)) s)) (bytes_of new)))
     ∷ advance_writes b s
 
--- the places that the predicate of word b is read from, and those that the advance after it writes
+-- the places that the predicate of word b is read from, as the registers stand
 abbrev pub predicate_places : ℕ → Regs → List Place
 predicate_places b s = mask_place b ∷ Ltp ∷ (cond (ltb (value_at Ltp s) 4) (R 14 ∷ []) [] ++ cond (not (eqb (mask_of b s) 0)) (P0 b ∷ []) [])
 

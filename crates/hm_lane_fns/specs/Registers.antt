@@ -13,7 +13,7 @@ use Rattle.hm_lane_fns.specs.declared.words.Operand.TheVariants.{Vector, Scalar,
 abbrev pub advancing : List (Cell × Value) → State → State
 advancing ws s = retired (put_all cells (ws ++ advance_half 0 s ++ advance_half 2 s) s)
 
--- the same where QC may be set
+-- registers get these values, QC is set where this says so, the masks advance, and the next instruction stands behind it
 abbrev pub saturating : Bool → List (Cell × Value) → State → State
 saturating marked ws s = retired (flagged marked (put_all cells (ws ++ advance_half 0 s ++ advance_half 2 s) s))
 

@@ -22,7 +22,7 @@ abbrev pub halves_from : ℕ → Option ℕ → List ℕ
 halves_from first None = first ∷ []
 halves_from first (Some second) = first ∷ second ∷ []
 
--- the halfwords of a line, and its text
+-- the halfwords of a line
 abbrev pub halves_of : Entry → List ℕ
 halves_of (shown i) = halfwords i
 halves_of (half h) = h ∷ []

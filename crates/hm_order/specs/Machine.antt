@@ -51,6 +51,7 @@ module _ {S I C V E W B : Type 0} (M : Core S I C V E W B) where
   Clean s = (c : C) → M.marked c (M.rows.view.get s c) ≡ false
 
   -- IN ORDER
+  -- one instruction done whole: a vector row, or what is done alone where none stands
   abbrev pub next_of : Option I → S → Result S W
   next_of (Some i) s = M.whole i s
   next_of None s = M.alone s
@@ -70,6 +71,7 @@ module _ {S I C V E W B : Type 0} (M : Core S I C V E W B) where
   settle a b n steps s = cond (a == 4) (record { a = b; b = 0; n = suc n; steps = steps; state = M.jump (M.rows.view.pc s + 4) s })
       (record { a = a; b = b; n = n; steps = steps; state = s })
 
+  -- before beat 0 a row is begun; before a later one nothing is done
   abbrev pub begin : I → ℕ → S → Result S E
   begin i zero s = M.start i s
   begin i (suc a) s = Ok s
@@ -78,10 +80,12 @@ module _ {S I C V E W B : Type 0} (M : Core S I C V E W B) where
   abbrev pub begun : Config S → Config S
   begun c = record c { state = cond (c.a == 0) (M.made c.state) c.state }
 
+  -- what the older came to: the position behind it, or why it stopped
   abbrev pub done : Config S → Result S E → (S → Config S) → Result (Config S) (End S E B)
   done c (Ok t) f = Ok (f t)
   done c (Err e) f = Err (Stopped (begun c) e)
 
+  -- a step of the older: the next beat of a vector row, or the whole of what is none
   abbrev pub older_of : Option I → Config S → Result (Config S) (End S E B)
   older_of (Some i) c = done c (then (begin i c.a c.state) ((M.rows.act i c.a).run)) (settle (suc c.a) c.b c.n (suc c.steps))
   older_of None c = done c (M.other c.state) (λ t. record { a = 0; b = 0; n = suc c.n; steps = suc c.steps; state = t })
@@ -95,6 +99,7 @@ module _ {S I C V E W B : Type 0} (M : Core S I C V E W B) where
   fault_end (Some b) c e = Broken c b
   fault_end None c e = Stopped c e
 
+  -- what a beat of the younger came to: one beat more of it is done, or why it does not go on
   abbrev pub did : Config S → Result S E → Result (Config S) (End S E B)
   did c (Ok t) = Ok (record { a = c.a; b = suc c.b; n = c.n; steps = c.steps; state = t })
   did c (Err e) = Err (fault_end (M.fault_rule e) c e)

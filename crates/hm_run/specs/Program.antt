@@ -43,6 +43,7 @@ or_fault = map_err Faults
 
 -- ONE WHOLE INSTRUCTION, in thread mode, alone. A vector row first makes the context where there is none, and may then
 -- be refused.
+-- a state, unless a fault refuses it
 abbrev pub unless_refused : Option Fault → State → Result State WholeStop
 unless_refused o s = or_fault (unless o (Ok s))
 
@@ -54,7 +55,7 @@ ready_state v s = unless_refused (refuse v (with_context s)) (with_context s)
 abbrev pub vector_row : Vector → State → Result State WholeStop
 vector_row v s = then (ready_state v s) (λ t. or_fault (vector_whole v t))
 
--- A breakpoint halts the program with its number, but that 171 asks something of the host.
+-- whether a breakpoint with this number asks something of the host: 171 does, and any other halts the program
 abbrev pub asks : ℕ → Bool
 asks k = nat_eq k 171
 
@@ -76,17 +77,17 @@ pub record Doing (F E : Type 0) : Type 0 where
 abbrev pub itself : WholeStop → WholeStop
 itself w = w
 
--- and by the machine
+-- why a whole instruction does not go on, named by the machine
 abbrev pub cause_of : WholeStop → Cause
 cause_of (Halt reason) = cause.Halt reason
 cause_of Full = cause.Full
 cause_of (Faults f) = cause.Stop (stop.Fault f)
 
--- alone, in thread mode
+-- how an instruction is done alone, in thread mode
 abbrev pub doing_alone : Doing Fault WholeStop
 doing_alone = record { runner = runner.alone; stopped = Faults; ended = itself }
 
--- in the machine, under who accesses the memory
+-- how an instruction is done in the machine, under who accesses the memory
 abbrev pub doing_in_machine : Around → Doing Stop Cause
 doing_in_machine around = record { runner = runner.in_machine around; stopped = cause.Stop; ended = cause_of }
 
@@ -95,11 +96,11 @@ abbrev pub answered : {E : Type 0} → (WholeStop → E) → State → Asked →
 answered ended s (Writes xs) = cond (nat_lt most_output (length s.rest.output + length xs)) (Err (ended Full)) (Ok (printed xs s))
 answered ended s (Exits reason) = Err (ended (Halt (Exit reason)))
 
--- BKPT 171: what the program asks of the host is read and done
+-- S18: BKPT 171: what the program asks of the host is read and done (DDI0553, "BKPT")
 abbrev pub served : {F E : Type 0} → Doing F E → State → Result State E
 served d s = then (map_err d.stopped (asked d.runner (regs_of s) (seen_in s))) (answered d.ended s)
 
--- BKPT with number k
+-- S18: BKPT with number k: 171 asks something of the host, and any other halts the program (DDI0553, "BKPT")
 abbrev pub breakpoint : {F E : Type 0} → Doing F E → ℕ → State → Result State E
 breakpoint d k s = cond (asks k) (served d s) (Err (d.ended (Halt (Break k))))
 
@@ -238,7 +239,7 @@ abbrev pub steps_left : Option Vector → ℕ → ℕ
 steps_left (Some v) a = 4 - a
 steps_left None a = 1
 
--- an instruction that stops, and whether it is the younger of two
+-- why an instruction stops, and whether it is the younger of two
 pub record Stopping : Type 0 where
   pub cause : Cause
   pub younger : Bool

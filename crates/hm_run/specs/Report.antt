@@ -55,11 +55,11 @@ reason_text (reason.Exit r) out = out ++ codes "exit " ++ hex8 r
 abbrev pub address_text : ℕ → ℕ → List ℕ → List ℕ
 address_text pc addr out = out ++ codes " pc " ++ hex8 pc ++ codes " addr " ++ hex8 addr
 
--- register n: 13 is sp, 14 is lr
+-- the name of register n: 13 is sp, 14 is lr
 abbrev pub register_text : ℕ → List ℕ → List ℕ
 register_text n out = if nat_eq n 13 then out ++ codes "sp" else (if nat_eq n 14 then out ++ codes "lr" else out ++ codes "r" ++ decimal n)
 
--- word k of all vector registers, as a word of one of them
+-- the name of word k of all vector registers, as a word of one of them
 abbrev pub word_text : ℕ → List ℕ → List ℕ
 word_text k out = out ++ codes "q" ++ decimal (k / 4) ++ codes "." ++ decimal (k % 4)
 
@@ -129,7 +129,7 @@ abbrev pub mode_line : ℕ → ℕ → List ℕ → List ℕ
 mode_line zero ipsr out = out ++ codes "mode thread\n"
 mode_line (suc k) ipsr out = out ++ codes "mode handler " ++ decimal ipsr ++ codes " depth " ++ decimal (suc k) ++ codes "\n"
 
--- registers 0 to k-1
+-- the lines of registers 0 to k-1
 abbrev pub low_lines : ℕ → List ℕ → List ℕ → List ℕ
 low_lines zero r out = out
 low_lines (suc k) r out = low_lines k r out ++ codes "r" ++ decimal k ++ codes " " ++ hex8 (slice_index r k) ++ codes "\n"
@@ -170,7 +170,7 @@ state_lines g out =
 abbrev pub special_lines : Regs → List ℕ → List ℕ
 special_lines g out = system_line g (state_lines g out)
 
--- vector register k
+-- the four words of vector register k
 abbrev pub vector_words : ℕ → List ℕ → List ℕ → List ℕ
 vector_words k qw out =
     out ++ hex8 (slice_index qw (4 * k)) ++ codes " " ++ hex8 (slice_index qw (4 * k + 1)) ++ codes " "
@@ -180,7 +180,7 @@ vector_words k qw out =
 abbrev pub vector_line : ℕ → List ℕ → List ℕ → List ℕ
 vector_line k qw out = vector_words k qw (out ++ codes "q" ++ decimal k ++ codes " ") ++ codes "\n"
 
--- vector registers 0 to k-1
+-- the lines of vector registers 0 to k-1
 abbrev pub vector_lines : ℕ → List ℕ → List ℕ → List ℕ
 vector_lines zero qw out = out
 vector_lines (suc k) qw out = vector_line k qw (vector_lines k qw out)
@@ -203,6 +203,6 @@ report_text x =
     let s = x.config.state in
     report_of x.outcome (length x.acts) (regs_of s) x.config.a x.config.b s.rest.output
 
--- SRAM and then its taint
+-- the memory file of a run: SRAM and then its taint
 abbrev pub memory_text : Timed → List ℕ
 memory_text x = sram_bytes x.config.state ++ taint_bytes x.config.state

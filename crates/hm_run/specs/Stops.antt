@@ -13,12 +13,12 @@ pub data WholeStop : Type 0 where
   Full : WholeStop
   Faults : Fault → WholeStop
 
--- the number of a breakpoint
+-- S18: the number of BKPT, if a scalar row is one (DDI0553, "BKPT")
 abbrev pub scalar_break : Scalar → Option ℕ
 scalar_break (scalar.S18 i) = Some i.i.value
 scalar_break i = None
 
--- the number of a breakpoint, if an instruction is one
+-- S18: the number of BKPT, if an instruction is one (DDI0553, "BKPT")
 abbrev pub break_of : Instr → Option ℕ
 break_of (instr.Scalar i) = scalar_break i
 break_of i = None

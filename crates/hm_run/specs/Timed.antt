@@ -56,7 +56,7 @@ outcome_of_cause t acts c pc (cause.Stop e) = outcome_of_stop t acts c pc e
 abbrev pub outcome_of : ℕ → List Activation → Config State → Stopping → Outcome
 outcome_of t acts c e = outcome_of_cause t acts c (pc_of c e) e.cause
 
--- an instruction that halts is retired, and a step of the older that stops counts as one
+-- how many instructions are retired where one does not go on: one that halts is
 abbrev pub retired_by : Cause → ℕ → ℕ
 retired_by (cause.Halt reason) n = n + 1
 retired_by cause.Full n = n

@@ -11,11 +11,11 @@ unfoldable pub ones_from : ℕ → ℕ → ℕ → List ℕ
 ones_from zero k bits = []
 ones_from (suc more) k bits = if bits % 2 == 1 then k ∷ ones_from more (k + 1) (bits / 2) else ones_from more (k + 1) (bits / 2)
 
--- a count of 1 is left out
+-- what a line of ticks writes where it is printed: a count of 1 is left out
 abbrev pub printed : TickLine → Written
 printed t = record { count = if t.count == 1 then None else Some t.count; letters = t.letters; numbers = ones_from 256 0 (number_of t.irq) }
 
--- what each tick of a line does: its letters and its interrupts
+-- the text of what each tick of a line does: its letters and its interrupts
 abbrev pub tick_text : TickLine → List ℕ
 tick_text t = steps_text t.letters ++ irq_text (ones_from 256 0 (number_of t.irq))
 

@@ -22,11 +22,11 @@ line_at k kind (l ∷ ls, rest) = Ok (l, (ls, rest))
 line_at k kind ([], []) = Err (refusals.Line k kind)
 line_at k kind ([], b ∷ rest) = Err (refusals.Line k Newline)
 
--- the format
+-- the format that the first line names, where it names one
 unfoldable pub header_in : List ℕ → Option ℕ
 header_in text = if bytes_eq text (header_text 1) then Some 1 else if bytes_eq text (header_text 2) then Some 2 else None
 
--- whether exceptions enter
+-- whether exceptions are entered, as the second line says, where it says so
 unfoldable pub entries_in : List ℕ → Option Bool
 entries_in text = if bytes_eq text (codes "entries no") then Some false else if bytes_eq text (codes "entries yes") then Some true else None
 
@@ -38,7 +38,7 @@ bounded_region lo hi = if nat_lt lo sram_start || (nat_lt hi lo || nat_lt (sram_
 abbrev pub addresses_in : List ℕ → List ℕ → Option (ℕ × ℕ)
 addresses_in low high = option_and_then (λ lo. option_and_then (λ hi. bounded_region lo hi) (hex8_in high)) (hex8_in low)
 
--- the ends of the region
+-- the ends of the region that the third line gives, where it gives some
 unfoldable pub region_in : List ℕ → Option (ℕ × ℕ)
 region_in text = if starts_with nat_eq text (codes "region ")
     then (if length (span space (drop 7 text)).1 == 0 then None else addresses_in (span space (drop 7 text)).0 (drop 1 (span space (drop 7 text)).1)) else None
@@ -47,11 +47,11 @@ region_in text = if starts_with nat_eq text (codes "region ")
 abbrev pub bounded_floor : ℕ → Option ℕ
 bounded_floor a = if nat_lt a sram_start || nat_lt (sram_start + sram_size) a then None else Some a
 
--- the floor of the main stack
+-- the floor of the main stack that the fourth line gives, where it gives one
 unfoldable pub floor_in : List ℕ → Option ℕ
 floor_in text = if starts_with nat_eq text (codes "floor ") then option_and_then bounded_floor (hex8_in (drop 6 text)) else None
 
--- the floor of the process stack
+-- the floor of the process stack that the fifth line gives, where it gives one
 unfoldable pub process_in : List ℕ → Option ℕ
 process_in text = if starts_with nat_eq text (codes "process ") then option_and_then bounded_floor (hex8_in (drop 8 text)) else None
 

@@ -41,5 +41,6 @@ all_or format [] = numbers_from (most_irq format) 0
 all_or format (n ∷ irqs) = n ∷ irqs
 
 -- THE INTERRUPTS THAT ARE DRAWN FROM
+-- those that the lines of a schedule name, or where they name none all of its format
 abbrev pub interrupts_of : Sched → List ℕ
 interrupts_of s = all_or s.format (named s)

@@ -21,6 +21,7 @@ offence_kind (offence.Store addr) = kind.Store
 offence_kind (offence.Call pc) = kind.Call
 
 -- THE KIND OF AN OUTCOME
+-- what is told of an outcome, but for when and where
 abbrev pub kind_of : Outcome → Kind
 kind_of (outcome.Halted reason n) = kind.Halted reason n
 kind_of (outcome.Fault who f pc n) = kind.Fault who f.kind

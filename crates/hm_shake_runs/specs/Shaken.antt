@@ -49,9 +49,11 @@ abbrev pub with_tail : List Stretch → List Stretch
 with_tail xs = xs ++ tail_part (total (map stretch_line xs))
 
 -- THE STRETCHES OF A RUN
+-- gaps with an interrupt behind each, and the ticks that are left behind them
 abbrev pub shaken : Plan → List ℕ → ℕ → List Stretch
 shaken p irqs run = with_tail (pairs (many_pairs p.ticks (longest_gap p run)) (longest_gap p run) irqs (first p.seed run))
 
 -- THE SCHEDULE OF A RUN
+-- the schedule with this head that these stretches make
 abbrev pub shaken_schedule : Plan → Head → List ℕ → ℕ → Sched
 shaken_schedule p h irqs run = with_stretches (shaken p irqs run) (bare h)

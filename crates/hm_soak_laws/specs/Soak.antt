@@ -34,7 +34,7 @@ pub data Item : Type 0 where
   Nop : Item  -- nop
   Bx : ℕ → Item  -- bx rm
 
--- interrupt 0 is enabled
+-- the items that enable interrupt 0
 abbrev pub head : List Item
 head = Movw 2 0xe100 ∷ Movt 2 0xe000 ∷ Movs 3 1 ∷ Str 3 2 ∷ []
 
@@ -56,7 +56,7 @@ unfoldable pub operations : ℕ → ℕ → ℕ → List Item
 operations zero k x = []
 operations (suc n) k x = operation k (draw x) ∷ operations n (k + 1) (draw x)
 
--- how many there are
+-- how many operations a soak has
 abbrev pub many : ℕ
 many = 4096
 

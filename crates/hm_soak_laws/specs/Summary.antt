@@ -37,7 +37,7 @@ summary_text number n t e same =
     codes "soak " ++ decimal number ++ codes " instructions " ++ decimal n ++ codes " ticks " ++ decimal t ++ codes " entries " ++ decimal e ++ codes " "
     ++ verdict same ++ codes "\n"
 
--- the runs of the image: under the schedule of the soak, and plain
+-- the run of the image under the schedule of the soak
 abbrev pub scheduled : Listing → List Segment → Run
 scheduled listing image = run_out listing image schedule
 

@@ -6,7 +6,7 @@ use Rattle.hm_base.specs.declared.Place.TheVariants.{R, Ltp}
 use Rattle.hm_mem.specs.Memory.{Around, Bounds, first_devices, thread_under}
 use Rattle.hm_state.specs.State.{State, Cell, At, Byte, Value, word, Rest}
 
--- the words at 0 and at 4 of an image: the stack pointer, and the address of the first instruction with bit 0 set
+-- the word at 0 of an image: the stack pointer
 abbrev pub reset_sp : List Segment → ℕ
 reset_sp image = word_at (flash_byte image) 0
 
@@ -14,7 +14,7 @@ reset_sp image = word_at (flash_byte image) 0
 abbrev pub reset_pc : List Segment → ℕ
 reset_pc image = word_at (flash_byte image) 4
 
--- the places: sp from the image, lr all ones, LTPSIZE 4, and 0 elsewhere
+-- what each place holds after a reset: sp from the image, lr all ones, LTPSIZE 4, and 0 elsewhere
 abbrev pub first_value : List Segment → Place → ℕ
 first_value image (R n) = if nat_eq n 13 then reset_sp image - reset_sp image % 4 else (if nat_eq n 14 then 0xffffffff else 0)
 first_value image Ltp = 4
@@ -49,7 +49,7 @@ first_rest around = record {
   around = around;
 }
 
--- after a reset to an image, the thread running under these bounds of handlers
+-- the state after a reset to an image, the thread running under these bounds of handlers
 unfoldable pub start_under : Bounds → List Segment → State
 start_under bounds image = record {
   cell = first_cell image;
@@ -62,6 +62,6 @@ start_under bounds image = record {
 abbrev pub first_bounds : Bounds
 first_bounds = record { lo = sram_start; hi = sram_start; floor = sram_start; process = sram_start }
 
--- the same where no handler may store anywhere below its frame but from the first byte of SRAM on
+-- the state after a reset to an image, the thread running, handlers with an empty region and the lowest floors
 abbrev pub start : List Segment → State
 start image = start_under first_bounds image

@@ -4,11 +4,11 @@ use Rattle.std.specs.Prelude.{ℕ, zero, suc, ◌-◌, ◌/◌, ◌%◌, ◌^◌
 use Rattle.std.specs.Prelude.{slice_index, set, IsTrue, Option, Some, None}
 use Rattle.hm_mem.specs.declared.Dev.{Dev}
 
--- exception 15 is SysTick, and 16 + n is the external interrupt n, of which there are 240
+-- the exception number of SysTick
 abbrev pub tick_number : ℕ
 tick_number = 15
 
--- the first number that no exception has
+-- the first number that no exception has: 16 + n is the external interrupt n, of which there are 240
 abbrev pub end_number : ℕ
 end_number = 256
 

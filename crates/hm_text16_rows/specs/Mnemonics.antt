@@ -30,7 +30,7 @@ shift_mnemonic shift.Lsl = codes "lsls"
 shift_mnemonic shift.Lsr = codes "lsrs"
 shift_mnemonic shift.Asr = codes "asrs"
 
--- S2 and S3: the mnemonic of each name, ADDS and SUBS (DDI0553, "ADD (register)" and "SUB (register)")
+-- S2 and S3: the mnemonic of each name, ADDS and SUBS (DDI0553, "ADD (register)", "SUB (register)", "ADD (immediate)" and "SUB (immediate)")
 abbrev pub sum_mnemonic : SumName → List ℕ
 sum_mnemonic sum_.Add = codes "adds"
 sum_mnemonic sum_.Sub = codes "subs"

@@ -21,7 +21,7 @@ use Rattle.hm_text16_rows.specs.Mnemonics.{plain_mnemonic, shift_mnemonic, stack
 abbrev pub by_register : List ℕ → ℕ → ℕ → ℕ → List Tok
 by_register name t n m = word name ∷ r t ∷ comma ∷ open_bracket ∷ r n ∷ comma ∷ r m ∷ close_bracket ∷ []
 
--- S16: the tokens of an access at a number, `rt,[rn,#k]` (DDI0553, the immediate form of each, as "STR (immediate)")
+-- S16 and S17: the tokens of an access at a number, `rt,[rn,#k]` (DDI0553, the immediate form of each, as "STR (immediate)")
 abbrev pub by_number : List ℕ → ℕ → ℕ → ℕ → List Tok
 by_number name t n k = word name ∷ r t ∷ comma ∷ inside 1 0 (r n) k
 

@@ -106,7 +106,9 @@ loop_end_mnemonic loop_end.LeLr = codes "le"
 loop_end_mnemonic loop_end.Letp = codes "letp"
 loop_end_mnemonic loop_end.Le = codes "le"
 
--- the mnemonic of each row, without what stands behind the point
+-- the mnemonic of each row, without what stands behind the point; T7: BFC and BFI; T18: MRS and MSR; T19: NOP; T22: VMOV of a word; T23: DLS, WLS,
+-- DLSTP, WLSTP and LCTP (DDI0553, "BFC", "BFI", "MRS", "MSR (register)", "NOP", "VMOV (general-purpose register to vector lane)",
+-- "VMOV (vector lane to general-purpose register)", "WLS, DLS, WLSTP, DLSTP" and "LCTP")
 abbrev pub mnemonic_of : WideRow → List ℕ
 mnemonic_of (wide.T1 i) = kind_mnemonic (kind_of (letters_t1 i))
 mnemonic_of (wide.T2 i) = kind_mnemonic (kind_of (letters_t2 i))

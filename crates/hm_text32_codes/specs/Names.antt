@@ -110,7 +110,9 @@ abbrev pub select_names : List SelectName
 select_names = select.Csel ∷ select.Csinc ∷ select.Csinv ∷ select.Csneg ∷ []
 
 -- MNEMONICS of some rows alone
--- T1, T2 and T8: the mnemonic that says this (DDI0553, "Data-processing (modified immediate)" and "Data-processing (shifted register)")
+-- T1, T2 and T8: the mnemonic that says this, of AND to RSB, TST, TEQ, CMN, CMP, MOV, MVN, RRX and the shifts
+-- (DDI0553, "Data-processing (modified immediate)", "Data-processing (shifted register)", "LSL (register)", "LSR (register)", "ASR (register)" and
+-- "ROR (register)")
 abbrev pub kind_mnemonic : DataKind → List ℕ
 kind_mnemonic (kind.Three name s) = data_mnemonic name s
 kind_mnemonic (kind.Test name) = test_mnemonic name
@@ -132,7 +134,9 @@ kinds_of_shifts =
     kind.Carry 0 ∷ kind.Carry 1 ∷ kind.Shift 0 0 ∷ kind.Shift 0 1 ∷ kind.Shift 1 0 ∷ kind.Shift 1 1 ∷ kind.Shift 2 0 ∷ kind.Shift 2 1
     ∷ kind.Shift 3 0 ∷ kind.Shift 3 1 ∷ []
 
--- T1, T2 and T8: what a mnemonic says (DDI0553, "Data-processing (modified immediate)" and "Data-processing (shifted register)")
+-- T1, T2 and T8: what a mnemonic of these says
+-- (DDI0553, "Data-processing (modified immediate)", "Data-processing (shifted register)", "LSL (register)", "LSR (register)", "ASR (register)" and
+-- "ROR (register)")
 abbrev pub kind_in : List ℕ → Option DataKind
 kind_in s =
     option_or (option_map (λ p. kind.Three p.0 p.1) (named_with_bit data_mnemonic data_names s))

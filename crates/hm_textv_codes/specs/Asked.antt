@@ -39,7 +39,8 @@ long_mnemonic t k = cond (nat_eq k 0) (long_move_mnemonic t) (long_shift_mnemoni
 abbrev pub constant_number : ℕ → ℕ → ℕ
 constant_number op cm = if nat_lt cm 12 then cm % 2 * 2 + op else (if nat_lt cm 14 then op else 0)
 
--- the mnemonic of each row, which is its first word up to the point
+-- the mnemonic of each row, which is its first word up to the point; V13: VMVN; V17: VSHLC; V18: VDUP; V21: VPSEL and VCTP
+-- (DDI0553, "VMVN (register)", "VSHLC", "VDUP", "VPSEL" and "VCTP")
 abbrev pub mnemonic_of : Vector → List ℕ
 mnemonic_of (vector.V1 i) = add_mnemonic i.name
 mnemonic_of (vector.V2 i) = bitwise_mnemonic i.name

@@ -156,7 +156,7 @@ registers f d =
 abbrev pub interleaved_tokens : List ℕ → ℕ → ℕ → Tok → ℕ → List Tok
 interleaved_tokens name f d base w = word name ∷ (registers f d ++ comma ∷ open_bracket ∷ base ∷ close_bracket ∷ back w)
 
--- the tokens of each row as it is printed
+-- the tokens of each row as it is printed; V17: VSHLC (DDI0553, "VSHLC"); V18: VDUP (DDI0553, "VDUP")
 abbrev pub tokens_of : Vector → List Tok
 tokens_of (V1 i) = three (add_mnemonic i.name ++ integer i.z.value) (q i.d.value) (q i.n.value) (q i.m.value)
 tokens_of (V2 i) = three (bitwise_mnemonic i.name) (q i.d.value) (q i.n.value) (q i.m.value)
@@ -202,7 +202,7 @@ abbrev pub other_bitwise : BitwiseName → Bool → ℕ → ℕ → Option (List
 other_bitwise bitwise.Orr same d m = if same then Some (two (codes "vmov") (q d) (q m)) else None
 other_bitwise name same d m = None
 
--- the other text that is read as a row: `vmov qd,qm` as vorr, and `vmlav`, `vmlava` as vmladav, vmladava
+-- V2 and V22: the other text that is read as a row: VMOV of a register as VORR, and VMLAV, VMLAVA as VMLADAV, VMLADAVA (DDI0553, "VORR" and "VMLADAV")
 abbrev pub other_tokens : Vector → Option (List Tok)
 other_tokens (V2 i) = other_bitwise i.name (nat_eq i.n.value i.m.value) i.d.value i.m.value
 other_tokens (V22 (v22.Dot i)) =

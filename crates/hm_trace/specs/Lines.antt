@@ -90,6 +90,7 @@ end_part None = codes "\n"
 end_part (Some o) = codes " | " ++ outcome_line (Some o)
 
 -- THE LINE OF A TICK
+-- its head, the instructions of the tick, what changed, and how the run ended where it did
 unfoldable pub tick_line : Listing → Past → Mark → Timed → List ℕ
 tick_line listing p mark y =
     head_part p mark y ++ (flat_map (progress_part listing) (progresses p mark y)

@@ -114,6 +114,7 @@ unfoldable pub tick_row : Listing → Past → Mark → Timed → List ℕ
 tick_row listing p mark y = row_start p y ++ (flat_map (progress_group listing) (progresses p mark y) ++ row_end p y)
 
 -- THE ROWS OF A TICK
+-- the row of the tick, and behind it the bars of what entered or returned and of how the run ended
 abbrev pub tick_rows : Listing → Past → Mark → Timed → List ℕ
 tick_rows listing p mark y = tick_row listing p mark y ++ (mark_rows mark (regs_of y.config.state).ipsr ++ ended_row y.outcome)
 
