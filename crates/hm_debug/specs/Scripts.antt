@@ -27,7 +27,7 @@ IsFirstBad bad k ([], []) = ⊥
 IsFirstBad bad k ([], b ∷ bs) = bad ≡ k
 IsFirstBad bad k (l ∷ ls, rest) = (((c : Command) → ¬ (Says l c)) × (bad ≡ k)) ⊎ ((c : Command) × Says l c × IsFirstBad bad (k + 1) (ls, rest))
 
--- A SCRIPT, and why a text is none
+-- A SCRIPT: a text of no more lines than there may be, which say these commands
 pub record IsScript (text : List ℕ) (cs : List Command) : Type 0 where
   pub few : nat_lt most_lines (lines_in (lines_of text)) ≡ false
   pub says : SayAll (lines_of text) cs

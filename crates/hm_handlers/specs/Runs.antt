@@ -127,7 +127,7 @@ abbrev pub next : Listing → Sched → List TickLine → Run → Run
 next listing s [] x = x
 next listing s (line ∷ left) x = closed left (tick listing s line x)
 
--- THE MACHINE after t ticks of a schedule, and after all
+-- THE MACHINE after t ticks of a schedule
 abbrev pub run : Listing → List Segment → Sched → ℕ → Run
 run listing image s zero = closed (ticks_of s.lines) (begin image s)
 run listing image s (suc t) = next listing s (drop t (ticks_of s.lines)) (run listing image s t)

@@ -10,7 +10,7 @@ use Rattle.hm_isa.specs.declared.widths.WideRow.TheVariants as wide
 use Rattle.hm_isa.specs.declared.widths.ByWidth.{ByWidth}
 use Rattle.hm_isa.specs.declared.widths.ByWidth.TheVariants as by
 
--- a scalar instruction by the width of its code: S1 to S21 one halfword, T1 to T15 and T18 to T22 two
+-- a scalar instruction by the width of its code: S1 to S21 one halfword, T1 to T15 and T18 to T22 two (DDI0553, "T32 instruction set encoding")
 abbrev pub scalar_by_width : Scalar → ByWidth
 scalar_by_width (scalar.S1 r) = by.Narrow (narrow.S1 r)
 scalar_by_width (scalar.S2 r) = by.Narrow (narrow.S2 r)
@@ -54,7 +54,7 @@ scalar_by_width (scalar.T20 r) = by.Wide (wide.T20 r)
 scalar_by_width (scalar.T21 r) = by.Wide (wide.T21 r)
 scalar_by_width (scalar.T22 r) = by.Wide (wide.T22 r)
 
--- a branch by the width of its code: S23 to S25 one halfword, T16, T17 and T23 two
+-- a branch by the width of its code: S23 to S25 one halfword, T16, T17 and T23 two (DDI0553, "T32 instruction set encoding")
 abbrev pub branch_by_width : Branch → ByWidth
 branch_by_width (branch.S23 r) = by.Narrow (narrow.S23 r)
 branch_by_width (branch.S24 r) = by.Narrow (narrow.S24 r)

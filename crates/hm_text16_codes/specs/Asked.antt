@@ -37,7 +37,8 @@ two_given a b kind = given a b 0 kind kinds.Missing
 abbrev pub three_given : ℕ → ℕ → ℕ → Kind → Operands
 three_given a b c kind = given a b c kinds.Word kind
 
--- the operands of each row, where t is the token of its label; of S20, what is read of its list
+-- the operands of each row, where t is the token of its label; S20: of PUSH, POP, STM and LDM, what is read of its list
+-- (DDI0553, "STMDB, STMFD", "LDM, LDMIA, LDMFD" and "STM, STMIA, STMEA")
 abbrev pub operands_of : NarrowRow → Tok → Operands
 operands_of (narrow.S1 i) t = three_given i.d.value i.m.value (shift_amount i.name i.i.value) kinds.Number
 operands_of (narrow.S2 i) t = three_given i.d.value i.n.value i.m.value kinds.Word

@@ -57,7 +57,7 @@ pub record Letters : Type 0 where
   pub ty : ℕ
   pub k : ℕ
 
--- the letters in this order
+-- T1 and T2: the letters in this order (DDI0553, "Data-processing (modified immediate)" and "Data-processing (shifted register)")
 abbrev pub letters : DataName → ℕ → ℕ → ℕ → Bool → ℕ → ℕ → ℕ → Letters
 letters name s n d is_number last ty k = record {
   name = name;
@@ -264,7 +264,8 @@ loop_operands (t23.Wlstp i) t = given_sized i.z.value false (is_number t) 14 i.n
 loop_operands (t23.End i) t = loop_end_operands i.name t
 loop_operands t23.Lctp t = none_given
 
--- the operands of each row, where t is the token of its label; of T14, what is read of its list
+-- the operands of each row, where t is the token of its label; T14: of STMIA, LDMIA, STMDB and LDMDB, what is read of its list
+-- (DDI0553, "STM, STMIA, STMEA", "LDM, LDMIA, LDMFD", "STMDB, STMFD" and "LDMDB, LDMEA")
 abbrev pub operands_of : WideRow → Tok → Operands
 operands_of (wide.T1 i) t = kind_operands (kind_of (letters_t1 i)) (letters_t1 i)
 operands_of (wide.T2 i) t = kind_operands (kind_of (letters_t2 i)) (letters_t2 i)

@@ -25,7 +25,7 @@ special_number name = read_base name % 2 ^ 8
 abbrev pub special_in : List ℕ → Option ℕ
 special_in w = option_map special_number (named read_name special_names w)
 
--- zero, and what VMRS and VMSR name
+-- the number of another word: 15 of `zr`, and those of what VMRS and VMSR name; else 0
 abbrev pub other_wide_word_value : List ℕ → ℕ
 other_wide_word_value w =
     if bytes_eq w (codes "zr") then 15

@@ -14,7 +14,7 @@ use Rattle.hm_textv_codes.specs.declared.operands.Operands.{Operands}
 abbrev pub compare_condition_in : List ℕ → Option ℕ
 compare_condition_in w = named compare_condition (0 ∷ 1 ∷ 2 ∷ 3 ∷ 4 ∷ 5 ∷ 6 ∷ 7 ∷ []) w
 
--- zero, a shift that brings in ones, and an offset that is scaled
+-- the number of another word: 15 of `zr`, 1 of `msl`, which brings in ones, and of `uxtw`, which scales an offset; else 0
 abbrev pub other_vector_word_value : List ℕ → ℕ
 other_vector_word_value w =
     if bytes_eq w (codes "zr") then 15

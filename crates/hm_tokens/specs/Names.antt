@@ -25,7 +25,7 @@ condition_names =
     codes "eq" ∷ codes "ne" ∷ codes "cs" ∷ codes "cc" ∷ codes "mi" ∷ codes "pl" ∷ codes "vs" ∷ codes "vc"
     ∷ codes "hi" ∷ codes "ls" ∷ codes "ge" ∷ codes "lt" ∷ codes "gt" ∷ codes "le" ∷ []
 
--- the name of a number
+-- the name of a core register, by its number
 abbrev pub register_name : ℕ → List ℕ
 register_name n = get_or register_names n []
 

@@ -20,7 +20,7 @@ first_word_of t = t.mnemonic.now ++ (t.letters.now ++ t.suffix.now)
 abbrev pub text_tokens : InstrText → List Tok
 text_tokens t = word (first_word_of t) ∷ map part_token t.operands.items
 
--- a word in pieces
+-- what stands in a word behind this piece; None where the word does not begin with it
 abbrev pub behind : List ℕ → List ℕ → Option (List ℕ)
 behind piece name = if starts_with nat_eq name piece then Some (drop (length piece) name) else None
 
