@@ -59,12 +59,13 @@ words_row always_slice d sources f mark = record {
 }
 
 -- LANES OF TWO OPERANDS AND OF THE OLD WORD
--- the new word of a row of lanes: its function, lane by lane, of the old word and of two operands
+-- V1 to V5, V7, V10, V11, V13 and V18: the new word of a row of lanes: its function, lane by lane, of the old word and of two operands
+-- (DDI0553, the sections named at these rows' types)
 abbrev pub lanes_new : Lanes → List ℕ → ℕ
 lanes_new l (old ∷ x ∷ ys) = word_of (lanewise3 l.z (lane_of l.f l.unsigned l.z) (bytes_of old) (bytes_of x) (bytes_of (operand_of l.z l.by ys)))
 lanes_new l _ = 0
 
--- whether an active lane saturates
+-- V3 to V5, V10, V11 and V13: whether an active lane of a word saturates (DDI0553, the sections named at these rows' types)
 abbrev pub lanes_mark : Lanes → List Bool → List ℕ → Bool
 lanes_mark l active (old ∷ x ∷ ys) =
     any_both active (lane_tests3 l.z (lane_saturates l.f l.unsigned l.z) (bytes_of old) (bytes_of x) (bytes_of (operand_of l.z l.by ys)))
