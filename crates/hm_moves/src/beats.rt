@@ -25,7 +25,7 @@ use crate::found::{find_elements, is_predicated, only_element};
 use crate::words::{Words, list_words, single, written_back};
 use arrayvec::ArrayVec;
 use hm_base::{Place, Stop};
-use hm_kinds::Written;
+use hm_kinds::{Written, put_some};
 use hm_lane::{is_unpredicated, mask_at};
 use hm_mem::Mem;
 use hm_regs::Regs;
@@ -224,18 +224,6 @@ fn transfer(row: &Move, one: Option<u8>, b: u8, es: &[Element], r: &mut Regs, m:
         store(row, one, b, es, r, m)
     } else {
         load(row, one, b, es, r, m)
-    }
-}
-
-/// Writes a place, where there is one.
-fn put_some(r: &mut Regs, w: Option<Written>)
-    requires { IfSome w (λ x. IsPlace x.place) }
-    ensures value { r.new ≡ apply (puts w) r.old }
-    ensures context { r.new.fpca ≡ r.old.fpca }
-{
-    match w {
-        Some(w) => r.set(w.place, w.value),
-        None => {}
     }
 }
 
