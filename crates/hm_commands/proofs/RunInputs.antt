@@ -1,9 +1,9 @@
 -- An image and a schedule as they were read, and what comes of them.
 use Rattle.std.proofs.Common.{◌≡◌, ◌%◌, List, Option, Some, Result, Ok, Err, refl, sym, ap, subst, ◌∙◌}
 use Rattle.hm_base.specs.Image.{Segment}
+use Rattle.hm_base.specs.Results.{FailsImage}
 use Rattle.hm_base.specs.declared.errors.ImageErr.{ImageErr}
 use Rattle.hm_base.specs.declared.errors.ImageErr.TheVariants as refusals
-use Rattle.hm_elf.specs.ReadImage.{Fails as FailsImage}
 use Rattle.hm_machine.specs.Calls.{LoadRefuses}
 use Rattle.hm_machine.specs.declared.load.LoadErr.{LoadErr}
 use Rattle.hm_machine.specs.declared.load.LoadErr.TheVariants as load

@@ -3,6 +3,7 @@ use Rattle.std.proofs.Common.{◌≡◌, ℕ, ◌%◌, nat_eq, arith, Bool, true
 use Rattle.std.specs.Prelude.{if◌then◌else◌}
 use Rattle.std.proofs.lemmas.Bool.Decides.{nat_tests}
 use Rattle.hm_base.specs.Image.{Segment}
+use Rattle.hm_base.specs.Results.{FailsImage}
 use Rattle.hm_state.specs.Start.{reset_pc}
 use Rattle.hm_asm.specs.Sources.{GivesOutcome}
 use Rattle.hm_asm.specs.declared.errors.AsmErr.{AsmErr}
@@ -10,7 +11,6 @@ use Rattle.hm_asm.specs.declared.errors.AsmErr.TheVariants as assembly
 use Rattle.hm_base.specs.declared.errors.ImageErr.{ImageErr}
 use Rattle.hm_base.specs.declared.errors.ImageErr.TheVariants as refusals
 use Rattle.hm_codes.specs.Listing.{Listing}
-use Rattle.hm_elf.specs.ReadImage.{Fails as FailsImage}
 use Rattle.hm_handlers.specs.Runs.{shown_out}
 use Rattle.hm_machine.specs.Shown.{Shown, timed_of}
 use Rattle.hm_plan_laws.specs.Planned.{planned}

@@ -1,7 +1,7 @@
 //! Images of any form.
 
 ghost use Rattle.std.specs.Prelude.{◌≤◌, length};
-ghost use Rattle.hm_elf.specs.ReadImage.{Gives};
+ghost use Rattle.hm_base.specs.Results.{GivesImage};
 ghost use Rattle.hm_host.specs.Host.{longest};
 ghost use Rattle.hm_commands.specs.Images.{image_of};
 
@@ -13,7 +13,7 @@ use std::alloc::Global;
 /// The image of a file: of Intel HEX where it begins with a colon, else an ELF or a flat one.
 pub fn read_any(alloc: Global, bytes: &[u8]) -> Result<Image, ImageErr>
     requires short { length bytes.now ≤ longest }
-    ensures exact { Gives result (image_of bytes.now) }
+    ensures exact { GivesImage result (image_of bytes.now) }
 {
     if !bytes.is_empty() && bytes[0] == b':' {
         read_hex(alloc, bytes)

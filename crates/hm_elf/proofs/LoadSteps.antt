@@ -4,20 +4,22 @@ use Rattle.std.proofs.Common.{◌⊎◌, inl, inr}
 use Rattle.std.proofs.lemmas.Bool.{le-leb, lt-leb}
 use Rattle.std.proofs.lemmas.List.{drop-drop}
 use Rattle.hm_base.specs.Image.{Segment, segment, IsPlaced, IsApart}
+use Rattle.hm_base.specs.Results.{FailsImage, GivesImage}
 use Rattle.hm_base.specs.declared.errors.ImageErr.{ImageErr}
 use Rattle.hm_base.specs.declared.errors.ImageErr.TheVariants as refusals
 use Rattle.hm_text_base.specs.Reading.{◌>>=◌}
 use Rattle.hm_elf.specs.declared.reading.ProgramHeader.{ProgramHeader}
 use Rattle.hm_elf.proofs.Placing.{refused}
 use Rattle.hm_elf.specs.Elf.{header_at, headers_in, loads, loaded}
-use Rattle.hm_elf.specs.ReadImage.{place_in, load_in, loads_in, Fails, Gives}
+use Rattle.hm_elf.specs.ReadImage.{place_in, load_in, loads_in}
 
 -- a refusal fails so
-pub Fails-same : (e : ImageErr) (read : Result (List Segment) ImageErr) → read ≡ Err e → Fails e read
+pub Fails-same : (e : ImageErr) (read : Result (List Segment) ImageErr) → read ≡ Err e → FailsImage e read
 Fails-same refusals.OutOfMemory read is = tt
 Fails-same e read is = is
 
-pub Fails-with : (e : ImageErr) (read read' : Result (List Segment) ImageErr) → ((d : ImageErr) → read ≡ Err d → read' ≡ Err d) → Fails e read → Fails e read'
+pub Fails-with : (e : ImageErr) (read read' : Result (List Segment) ImageErr) → ((d : ImageErr) → read ≡ Err d → read' ≡ Err d) → FailsImage e read
+    → FailsImage e read'
 Fails-with refusals.OutOfMemory read read' f h = tt
 Fails-with e read read' f h = f e h
 
@@ -68,7 +70,8 @@ goes_on bytes k count table image more read h l is e so_far =
     ∙ ap (λ (r : Result (List Segment) ImageErr). r >>= λ m. loads_in bytes (k + 1) (left (k + 1) count table) m) e) ∙ so_far
 
 pub ends : (bytes : List ℕ) (k count : ℕ) (table : List ℕ) (image : List Segment) (read : Result (List Segment) ImageErr) (e : ImageErr) (h : ProgramHeader)
-    → k < count → h ≡ header_at (drop (32 * k) table) → loads_in bytes k (left k count table) image ≡ read → Fails e (load_in bytes k h image) → Fails e read
+    → k < count → h ≡ header_at (drop (32 * k) table) → loads_in bytes k (left k count table) image ≡ read → FailsImage e (load_in bytes k h image)
+    → FailsImage e read
 ends bytes k count table image read e h l is so_far fails =
     let next : Result (List Segment) ImageErr → Result (List Segment) ImageErr = λ r. r >>= λ m. loads_in bytes (k + 1) (left (k + 1) count table) m in
     Fails-with e (load_in bytes k h image) read (λ d stop. sym so_far ∙ loads_next bytes k count table image h l is ∙ ap next stop) fails
@@ -84,9 +87,9 @@ is_done bytes k count table image read l so_far =
 
 pub seen_at : (bytes : List ℕ) (k : ℕ) (h : ProgramHeader) (image : List Segment) (items : List ℕ) (result : Result (List Segment) ImageErr)
     → load_in bytes k h image ≡ place_in k (loaded bytes h) image → segment h.address items ≡ loaded bytes h
-    → Gives result (place_in k (segment h.address items) image) → Gives result (load_in bytes k h image)
+    → GivesImage result (place_in k (segment h.address items) image) → GivesImage result (load_in bytes k h image)
 seen_at bytes k h image items result is same g =
-    subst (λ (r : Result (List Segment) ImageErr). Gives result r) (ap (λ (s : Segment). place_in k s image) same ∙ sym is) g
+    subst (λ (r : Result (List Segment) ImageErr). GivesImage result r) (ap (λ (s : Segment). place_in k s image) same ∙ sym is) g
 
 -- what `add` answers
 abbrev stopped : ImageErr → Result (Unit {0}) ImageErr

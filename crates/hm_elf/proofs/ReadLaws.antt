@@ -5,6 +5,7 @@ use Rattle.std.specs.Prelude.{IfOk}
 use Rattle.std.specs.List.{AllByRecursion}
 use Rattle.std.proofs.lemmas.Bool.{leb-true, le-leb, eqb-true, eq-eqb, or_cases, or_left, or_right, cond-true, cases_Bool}
 use Rattle.hm_base.specs.Image.{Segment, with_segment, flash_size, flat, IsPlaced, IsApart, IsImage}
+use Rattle.hm_base.specs.Results.{GivesImage, unless}
 use Rattle.hm_base.specs.declared.errors.ImageErr.{ImageErr}
 use Rattle.hm_base.proofs.Images.{IsImage-with_segment}
 use Rattle.hm_base.proofs.Results.{unless_ok}
@@ -14,8 +15,7 @@ use Rattle.hm_elf.specs.declared.reading.ProgramHeader.{ProgramHeader}
 use Rattle.hm_elf.specs.Elf.{half, word, begins_as_elf, header_size, entry_size, most_headers, class_of, order_of, kind_of, machine_of, table_start}
 use Rattle.hm_elf.specs.Elf.{entry_size_of, header_count, IsHeader, headers_in, headers_of, loads, loading, loaded, IsLoaded, with_segments, IsElf, IsFlat}
 use Rattle.hm_elf.specs.Elf.{IsImageFile}
-use Rattle.hm_elf.specs.ReadImage.{first_failing, flat_checks, flat_in, header_checks, size_checks, place_in, load_in, loads_in, elf_in, image_in, Gives}
-use Rattle.hm_base.specs.Results.{unless}
+use Rattle.hm_elf.specs.ReadImage.{first_failing, flat_checks, flat_in, header_checks, size_checks, place_in, load_in, loads_in, elf_in, image_in}
 use Rattle.hm_elf.proofs.Placing.{placed, placed_found, image_parts, IsImage-before}
 use Rattle.hm_elf.proofs.LoadSteps.{skipped, to_place}
 
@@ -204,6 +204,6 @@ unfolding image_in
 image_again bytes image (inl f) = ap (λ (x : Bool). cond x (elf_in bytes) (flat_in bytes)) f.0 ∙ elf_again bytes image f.1
 image_again bytes image (inr f) = ap (λ (x : Bool). cond x (elf_in bytes) (flat_in bytes)) f.0 ∙ flat_again bytes image f.1
 
-pub is_found : (bytes : List ℕ) (r : Result (List Segment) ImageErr) → Gives r (image_in bytes) → IfOk r (λ image. IsImageFile bytes image)
+pub is_found : (bytes : List ℕ) (r : Result (List Segment) ImageErr) → GivesImage r (image_in bytes) → IfOk r (λ image. IsImageFile bytes image)
 is_found bytes (Ok image) g = image_found bytes image g
 is_found bytes (Err e) g = tt

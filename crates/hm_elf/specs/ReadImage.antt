@@ -1,5 +1,5 @@
 -- Reading the file of an image: the image, or the first refusal.
-use Rattle.std.specs.Prelude.{◌≡◌, ℕ, ◌+◌, ◌*◌, Bool, nat_lt, nat_le, ◌==◌, ◌&&◌, ◌||◌, List, [], ◌∷◌, length, Option, Some, None, Result, Ok, Err}
+use Rattle.std.specs.Prelude.{ℕ, ◌+◌, ◌*◌, Bool, nat_lt, nat_le, ◌==◌, ◌&&◌, ◌||◌, List, [], ◌∷◌, length, Option, Some, None, Result, Ok, Err}
 use Rattle.std.specs.Prelude.{if◌then◌else◌}
 use Rattle.std.specs.List.{list_all}
 use Rattle.hm_base.specs.Results.{unless}
@@ -86,13 +86,3 @@ first_checks bytes = if begins_as_elf bytes then header_checks bytes else flat_c
 -- the image of a file, which is ELF where it begins so and else flat, or the first refusal
 unfoldable pub image_in : List ℕ → Result (List Segment) ImageErr
 image_in bytes = if begins_as_elf bytes then elf_in bytes else flat_in bytes
-
--- a refusal is that of reading, and want of memory says nothing
-abbrev pub Fails : ImageErr → Result (List Segment) ImageErr → Type 0
-Fails refusals.OutOfMemory read = Unit {0}
-Fails e read = read ≡ Err e
-
--- what a function returned is what reading gives, unless memory was wanted
-abbrev pub Gives : Result (List Segment) ImageErr → Result (List Segment) ImageErr → Type 0
-Gives (Ok image) read = read ≡ Ok image
-Gives (Err e) read = Fails e read

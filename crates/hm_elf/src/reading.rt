@@ -2,9 +2,9 @@
 
 ghost use Rattle.std.specs.Prelude.{◌≡◌, ◌+◌, ◌*◌, ◌^◌, ◌<◌, ◌≤◌, List, [], length, take, drop, Some, Ok, Err, IfOk};
 ghost use Rattle.hm_base.specs.Image.{Segment, segment};
+ghost use Rattle.hm_base.specs.Results.{GivesImage};
 ghost use Rattle.hm_elf.specs.Elf.{half, word, header_at, headers_in, loads, IsImageFile};
 ghost use Rattle.hm_elf.specs.ReadImage.{first_checks, first_failing, flat_checks, header_checks, place_in, load_in, loads_in, elf_in, flat_in, image_in};
-ghost use Rattle.hm_elf.specs.ReadImage.{Gives};
 
 use hm_base::{FLASH_SIZE, Image, ImageErr};
 use std::alloc::{AllocError, Global};
@@ -114,7 +114,7 @@ fn header_refusal(bytes: &[u8]) -> Option<ImageErr>
 
 /// The image with one more segment, which program header `number` asks for.
 fn with_segment(image: Image, number: u32, address: u32, bytes: Vec<u8>) -> Result<Image, ImageErr>
-    ensures { Gives result (place_in number (segment address bytes.items) image) }
+    ensures { GivesImage result (place_in number (segment address bytes.items) image) }
 {
     let mut image = image;
     match image.add(address, bytes) {
@@ -141,7 +141,7 @@ fn load(
     image: Image,
 ) -> Result<Image, ImageErr>
     requires small { length bytes.now < 2 ^ 31 }
-    ensures { Gives result (load_in bytes.now number header.now image) }
+    ensures { GivesImage result (load_in bytes.now number header.now image) }
 {
     if !header.loads() {
         return Ok(image);
@@ -165,7 +165,7 @@ fn load(
 fn load_all(alloc: Global, bytes: &[u8], table: &[u8], count: u16) -> Result<Image, ImageErr>
     requires small { length bytes.now < 2 ^ 31 }
     requires whole { 32 * count ≤ length table.now }
-    ensures { Gives result (loads_in bytes.now 0 (headers_in count table.now) []) }
+    ensures { GivesImage result (loads_in bytes.now 0 (headers_in count table.now) []) }
 {
     let mut image = Image::new(alloc);
     for number in 0..count {
@@ -178,7 +178,7 @@ fn load_all(alloc: Global, bytes: &[u8], table: &[u8], count: u16) -> Result<Ima
 /// The image that an ELF file loads.
 fn read_elf(alloc: Global, bytes: &[u8]) -> Result<Image, ImageErr>
     requires small { length bytes.now < 2 ^ 31 }
-    ensures value { Gives result (elf_in bytes.now) }
+    ensures value { GivesImage result (elf_in bytes.now) }
     ensures refused { (e : ImageErr) → first_failing (header_checks bytes.now) ≡ Some e → result ≡ Err e }
 {
     match header_refusal(bytes) {
@@ -193,7 +193,7 @@ fn read_elf(alloc: Global, bytes: &[u8]) -> Result<Image, ImageErr>
 /// The image of bytes that lie in flash from 0 on.
 #[tactic(auto, unfolding(crate::specs::ReadImage::flat_in))]
 fn read_flat(alloc: Global, bytes: &[u8]) -> Result<Image, ImageErr>
-    ensures value { Gives result (flat_in bytes.now) }
+    ensures value { GivesImage result (flat_in bytes.now) }
     ensures refused { (e : ImageErr) → first_failing (flat_checks bytes.now) ≡ Some e → result ≡ Err e }
 {
     if bytes.len() < SHORTEST {
@@ -214,7 +214,7 @@ fn read_flat(alloc: Global, bytes: &[u8]) -> Result<Image, ImageErr>
 #[tactic(auto, unfolding(crate::specs::ReadImage::image_in))]
 fn read_file(alloc: Global, bytes: &[u8]) -> Result<Image, ImageErr>
     requires small { length bytes.now < 2 ^ 31 }
-    ensures value { Gives result (image_in bytes.now) }
+    ensures value { GivesImage result (image_in bytes.now) }
     ensures refused { (e : ImageErr) → first_failing (first_checks bytes.now) ≡ Some e → result ≡ Err e }
 {
     if bytes.starts_with(b"\x7fELF") {
@@ -237,9 +237,9 @@ pub fn read_image(alloc: Global, bytes: &[u8]) -> Result<Image, ImageErr>
     // What is read is what the file holds.
     ensures found { IfOk result (λ image. IsImageFile bytes.now image) }
     // What the file holds is read, unless memory was wanted.
-    ensures only { (image : List Segment) → IsImageFile bytes.now image → Gives result (Ok image) }
+    ensures only { (image : List Segment) → IsImageFile bytes.now image → GivesImage result (Ok image) }
     // Which refusal it is.
-    ensures exact { Gives result (image_in bytes.now) }
+    ensures exact { GivesImage result (image_in bytes.now) }
     // What is refused before a segment is looked at wants no memory.
     ensures refused { (e : ImageErr) → first_failing (first_checks bytes.now) ≡ Some e → result ≡ Err e }
 {

@@ -5,11 +5,12 @@ use Rattle.std.specs.List.{AllByRecursion}
 use Rattle.std.proofs.lemmas.Bool.{cases_Bool}
 use Rattle.std.proofs.lemmas.List.Elements.{All-cons, All-head, All-nil, All-push, All-tail}
 use Rattle.hm_base.specs.Image.{Before, IsApart, IsPlaced, Segment, segment, sram_start}
+use Rattle.hm_base.specs.Results.{GivesImage}
 use Rattle.hm_base.specs.declared.errors.ImageErr.{ImageErr}
 use Rattle.hm_text_base.specs.Reading.{◌>>=◌}
 use Rattle.hm_text_base.specs.Spans.{lines_of}
 use Rattle.hm_ihex.specs.Cells.{Cells, image_of, with_data}
-use Rattle.hm_ihex.specs.Files.{Gives, Reading, all_lines, behind_data, by_record, ended_by, first_reading, hex_in, lines_in}
+use Rattle.hm_ihex.specs.Files.{Reading, all_lines, behind_data, by_record, ended_by, first_reading, hex_in, lines_in}
 use Rattle.hm_ihex.specs.HexFile.{AreApart, AreRecordLines, EndsOnce, IsHexFile, IsRecordLine, data_behind, data_of}
 use Rattle.hm_ihex.specs.Records.{Record, data_at, end, line_in, new_base, start}
 use Rattle.hm_ihex.proofs.Filled.{put_none}
@@ -252,6 +253,6 @@ pub hex_longest : (bytes : List ℕ) (image : List Segment) → hex_in bytes ≡
 hex_longest bytes image e = let h = hex_found bytes image e in joined_parted image h.longest
 
 -- and so is what a function that reads them returned
-pub is_found : (bytes : List ℕ) (result : Result (List Segment) ImageErr) → Gives result (hex_in bytes) → IfOk result (λ image. IsHexFile bytes image)
+pub is_found : (bytes : List ℕ) (result : Result (List Segment) ImageErr) → GivesImage result (hex_in bytes) → IfOk result (λ image. IsHexFile bytes image)
 is_found bytes (Ok image) gives = hex_found bytes image gives
 is_found bytes (Err e) gives = tt

@@ -2,10 +2,11 @@
 use Rattle.std.proofs.Common.{◌≡◌, ℕ, ◌+◌, List, ◌∷◌, length, Result, Ok, Err, Some, refl, sym, ap, subst, ◌∙◌}
 use Rattle.std.specs.Prelude.{option_and_then}
 use Rattle.std.proofs.lemmas.List.{nil_from_length}
+use Rattle.hm_base.specs.Results.{FailsImage}
 use Rattle.hm_base.specs.declared.errors.ImageErr.{ImageErr}
 use Rattle.hm_base.specs.declared.errors.ImageErr.TheVariants as refusals
 use Rattle.hm_text_base.specs.Spans.{lines_of}
-use Rattle.hm_ihex.specs.Files.{Fails, Reading, all_lines, by_record, ended_by, lines_in}
+use Rattle.hm_ihex.specs.Files.{Reading, all_lines, by_record, ended_by, lines_in}
 use Rattle.hm_ihex.specs.Meant.{IsNext}
 use Rattle.hm_ihex.specs.Records.{Record, bytes_in, line_in, record_in}
 use Rattle.hm_ihex.specs.declared.reading.Next.{Next}
@@ -25,12 +26,12 @@ pub by_end : (k : ℕ) (old new : Reading) (l : List ℕ) (ls : List (List ℕ))
 by_end k old new l ls result h is = step k old l ls ∙ subst (λ (r : Result Next ImageErr). IsNext k old new (line_in l) r) is h ls (λ q. lines_in (k + 1) q ls)
 
 fails_by : (k : ℕ) (old new : Reading) (l : List ℕ) (ls : List (List ℕ)) (e : ImageErr) → IsNext k old new (line_in l) (Err e)
-    → Fails e (lines_in k old (l ∷ ls))
+    → FailsImage e (lines_in k old (l ∷ ls))
 fails_by k old new l ls refusals.OutOfMemory h = tt
 fails_by k old new l ls e h = step k old l ls ∙ h ls (λ q. lines_in (k + 1) q ls)
 
 pub by_err : (k : ℕ) (old new : Reading) (l : List ℕ) (ls : List (List ℕ)) (e : ImageErr) (result : Result Next ImageErr) → IsNext k old new (line_in l) result
-    → result ≡ Err e → Fails e (lines_in k old (l ∷ ls))
+    → result ≡ Err e → FailsImage e (lines_in k old (l ∷ ls))
 by_err k old new l ls e result h is = fails_by k old new l ls e (subst (λ (r : Result Next ImageErr). IsNext k old new (line_in l) r) is h)
 
 -- no line is left, and none was the end record

@@ -1,5 +1,5 @@
 -- Files of Intel HEX: the image, or the first refusal.
-use Rattle.std.specs.Prelude.{◌≡◌, ℕ, ◌+◌, ◌-◌, get_or, length, take, List, [], ◌∷◌, ◌++◌, Option, Some, None, Result, Ok, Err, map, nat_eq, if◌then◌else◌}
+use Rattle.std.specs.Prelude.{ℕ, ◌+◌, ◌-◌, get_or, length, take, List, [], ◌∷◌, ◌++◌, Option, Some, None, Result, Ok, Err, map, nat_eq, if◌then◌else◌}
 use Rattle.hm_base.specs.Image.{Segment}
 use Rattle.hm_base.specs.declared.errors.ImageErr.{ImageErr}
 use Rattle.hm_base.specs.declared.errors.ImageErr.TheVariants as refusals
@@ -54,13 +54,3 @@ lines_in k r (l ∷ ls) = by_record k r ls (λ q. lines_in (k + 1) q ls) (line_i
 -- the image of a file of Intel HEX, or its first refusal
 abbrev pub hex_in : List ℕ → Result (List Segment) ImageErr
 hex_in bytes = lines_in 1 first_reading (all_lines (lines_of bytes))
-
--- a refusal is that of reading, and want of memory says nothing
-abbrev pub Fails : ImageErr → Result (List Segment) ImageErr → Type 0
-Fails refusals.OutOfMemory read = Unit {0}
-Fails e read = read ≡ Err e
-
--- what a function returned is what reading gives, unless memory was wanted
-abbrev pub Gives : Result (List Segment) ImageErr → Result (List Segment) ImageErr → Type 0
-Gives (Ok image) read = read ≡ Ok image
-Gives (Err e) read = Fails e read

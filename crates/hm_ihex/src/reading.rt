@@ -2,8 +2,9 @@
 
 ghost use Rattle.std.specs.Prelude.{◌≡◌, ◌+◌, ◌<◌, ◌≤◌, ◌^◌, ℕ, List, Ok, Some, ◌∷◌, length, IfOk};
 ghost use Rattle.hm_base.specs.Image.{Segment};
+ghost use Rattle.hm_base.specs.Results.{GivesImage};
 ghost use Rattle.hm_text_base.specs.Spans.{lines_of};
-ghost use Rattle.hm_ihex.specs.Files.{Gives, all_lines, ended_by, first_reading, hex_in, without_return};
+ghost use Rattle.hm_ihex.specs.Files.{all_lines, ended_by, first_reading, hex_in, without_return};
 ghost use Rattle.hm_ihex.specs.HexFile.{IsHexFile};
 ghost use Rattle.hm_ihex.specs.Meant.{IfData, IsNext, cells_of, reading_of, record_meant};
 ghost use Rattle.hm_ihex.specs.Records.{line_in};
@@ -114,7 +115,7 @@ fn follow(alloc: Global, line: &[u8], number: u32, state: &mut State) -> Result<
 /// The image of cells behind the end record, or the refusal of the line that follows it.
 fn finish(alloc: Global, areas: &Areas, rest: &[u8], number: u32) -> Result<Image, ImageErr>
     requires few { number < 4294967295 }
-    ensures value { Gives result (ended_by number (cells_of areas.now) (all_lines (lines_of rest.now))) }
+    ensures value { GivesImage result (ended_by number (cells_of areas.now) (all_lines (lines_of rest.now))) }
 {
     if !rest.is_empty() {
         return Err(ImageErr::Hex { line: number + 1 });
@@ -141,7 +142,7 @@ fn first_state(alloc: Global) -> Result<State, OutOfMemory>
 /// Reads the lines of a file in turn.
 fn read_lines(alloc: Global, bytes: &[u8]) -> Result<Image, ImageErr>
     requires short { length bytes.now < 2 ^ 31 }
-    ensures exact { Gives result (hex_in bytes.now) }
+    ensures exact { GivesImage result (hex_in bytes.now) }
 {
     let Ok(mut state) = first_state(alloc) else {
         return Err(ImageErr::OutOfMemory);
@@ -173,9 +174,9 @@ pub fn read_hex(alloc: Global, bytes: &[u8]) -> Result<Image, ImageErr>
     // What is read is what the file holds.
     ensures found { IfOk result (λ image. IsHexFile bytes.now image) }
     // What the file holds is read, unless memory was wanted.
-    ensures only { (image : List Segment) → IsHexFile bytes.now image → Gives result (Ok image) }
+    ensures only { (image : List Segment) → IsHexFile bytes.now image → GivesImage result (Ok image) }
     // Which refusal it is.
-    ensures exact { Gives result (hex_in bytes.now) }
+    ensures exact { GivesImage result (hex_in bytes.now) }
 {
     read_lines(alloc, bytes)
 }

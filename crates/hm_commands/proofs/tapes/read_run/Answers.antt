@@ -1,6 +1,6 @@
 use Rattle.std.proofs.Common.{◌≡◌, ◌<◌, ℕ, [], List, Vec, Global, Ok, get_or, length, map, ap, sym, subst, ◌∙◌}
 use Rattle.std.proofs.lemmas.Result.{err_from_is_err_and}
-use Rattle.hm_elf.specs.ReadImage.{Fails as FailsImage}
+use Rattle.hm_base.specs.Results.{FailsImage}
 use Rattle.hm_words.specs.Words.{source_meant, source_reads}
 use Rattle.hm_commands.specs.Images.{image_of}
 use Rattle.hm_commands.specs.Run.{schedule_in}

@@ -1,8 +1,9 @@
 use Rattle.std.proofs.Common.{◌≡◌, List, Result, Ok, length, sym, ap, subst, ◌∙◌, rules, arith}
 use Rattle.hm_base.specs.Image.{Segment}
+use Rattle.hm_base.specs.Results.{FailsImage, GivesImage}
 use Rattle.hm_base.specs.declared.errors.ImageErr.{ImageErr}
 use Rattle.hm_text_base.specs.Spans.{lines_of}
-use Rattle.hm_ihex.specs.Files.{Fails, Gives, all_lines, lines_in}
+use Rattle.hm_ihex.specs.Files.{all_lines, lines_in}
 use Rattle.hm_ihex.specs.Meant.{reading_of}
 use Rattle.hm_ihex.specs.declared.reading.Next.{Next}
 use Rattle.hm_ihex.specs.declared.reading.Next.TheVariants.{End, More}
@@ -15,14 +16,14 @@ returns-in-Ok-End c =
     let read = by_end c.loop-rest.number (reading_of c.loop-rest.state) (reading_of c.follow.new.state) c.first_line.result.line.now
     (all_lines (lines_of c.first_line.result.rest.now)) c.follow.result c.follow.ensures.next ended in
     let whole = sym c.loop-rest.invariant.read ∙ ap (lines_in c.loop-rest.number (reading_of c.loop-rest.state)) c.first_line.ensures.lines ∙ read in
-    record { exact = subst (λ (r : Result (List Segment) ImageErr). Gives c.finish.result r) (sym whole) c.finish.ensures.value }
+    record { exact = subst (λ (r : Result (List Segment) ImageErr). GivesImage c.finish.result r) (sym whole) c.finish.ensures.value }
 
 pub returns-in-Err : goal.returns-in-Err
 returns-in-Err c =
     let fails = by_err c.loop-rest.number (reading_of c.loop-rest.state) (reading_of c.follow.new.state) c.first_line.result.line.now
     (all_lines (lines_of c.first_line.result.rest.now)) c.in-Err.e c.follow.result c.follow.ensures.next c.in-Err.is in
     let whole = sym c.loop-rest.invariant.read ∙ ap (lines_in c.loop-rest.number (reading_of c.loop-rest.state)) c.first_line.ensures.lines in
-    record { exact = subst (λ (r : Result (List Segment) ImageErr). Fails c.in-Err.e r) (sym whole) fails }
+    record { exact = subst (λ (r : Result (List Segment) ImageErr). FailsImage c.in-Err.e r) (sym whole) fails }
 
 pub loop-rest-preserved : goal.loop-rest-preserved
 loop-rest-preserved c =
