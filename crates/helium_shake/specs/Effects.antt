@@ -5,7 +5,7 @@ use Rattle.hm_base.specs.Image.{Segment}
 use Rattle.hm_codes.specs.Listing.{Listing}
 use Rattle.hm_commands.specs.Calls.{MakesCalls, read_calls, way_of}
 use Rattle.hm_commands.specs.Commands.{OfRunBy, UnlessRefusedBy}
-use Rattle.hm_commands.specs.Effect.{IsNotReached, Reading, missing, reading_of, refused_line, too_large, whole}
+use Rattle.hm_commands.specs.Effect.{BeginsOne, Reading, missing, reading_of, refused_line, too_large, whole}
 use Rattle.hm_commands.specs.Images.{image_of}
 use Rattle.hm_commands.specs.Run.{reset_refusal}
 use Rattle.hm_commands.specs.Work.{GivesBy}
@@ -175,13 +175,9 @@ pub record IsBegun (names : List (List ℕ)) (e : Effect) (old new : HostState) 
   pub carries : Carries e old new status
   pub calls : (F : FileMap) → old.files ≡ Some F → MakesCalls (read_calls F names ++ calls_for e) old.calls new.calls (way_of status)
 
--- one of these effects is begun, or none was reached: a read failed or memory was wanted before it, no file was touched and nothing was printed
-abbrev pub BeginsOne : List (List ℕ) → (Effect → Type 0) → HostState → HostState → Status → Type 0
-BeginsOne names Is old new status = ((e : Effect) × Is e × IsBegun names e old new status) ⊎ IsNotReached names old new status
-
 -- WHAT A CALL DOES, by what comes of the reads, which is what the files hold where the host tells them: an effect of the words is begun behind the reads, and
 -- done whole or cut by a fault of the host or for want of memory; or none was reached
 pub record Shakes (listings : List Segment → Listing) (asked : Option Asked) (old new : HostState) (status : Status) : Type 0 where
   pub reading : Reading
   pub told : (F : FileMap) → old.files ≡ Some F → reading ≡ reading_of F (reads_for asked)
-  pub begins : BeginsOne (reads_for asked) (IsEffect listings asked reading) old new status
+  pub begins : BeginsOne IsBegun (reads_for asked) (IsEffect listings asked reading) old new status

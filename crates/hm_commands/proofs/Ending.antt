@@ -8,7 +8,7 @@ use Rattle.hm_commands.specs.declared.status.Status.TheVariants.{Usage, Refused,
 use Rattle.hm_words.specs.Words.{Form, form_of}
 use Rattle.hm_commands.specs.Work.{Outcome, finishes}
 use Rattle.hm_commands.specs.Effect.{Effect, Reading, whole, too_large, missing, reading_of, reads_for, IsEffectAfter, IsEffectBy, IsEffect, effect_for}
-use Rattle.hm_commands.specs.Effect.{BeginsOne, IsDone, IsUntouched, Carries, Does, DoesOne}
+use Rattle.hm_commands.specs.Effect.{BeginsOne, IsBegun, IsDone, IsUntouched, Carries, Does, DoesOne}
 
 not_usage : (o : Outcome) → (effect_for o).status ≡ Usage → ⊥
 not_usage (finishes true file text) h = cc
@@ -64,11 +64,12 @@ read_for_words : (form : Option Form) (words : List (List ℕ)) (F : FileMap) (r
 read_for_words form words F reading read is = read ∙ ap (λ (o : Option Form). reading_of F (reads_for o)) is
 
 pub Does-begins : (listings : List Segment → Listing) (form : Option Form) (words : List (List ℕ)) (old new : HostState) (s : Status) (F : FileMap)
-    → form ≡ form_of words → Does listings form old new s → old.files ≡ Some F → BeginsOne (reads_for (form_of words)) (IsEffect listings words F) old new s
+    → form ≡ form_of words → Does listings form old new s → old.files ≡ Some F
+    → BeginsOne IsBegun (reads_for (form_of words)) (IsEffect listings words F) old new s
 Does-begins listings form words old new s F is h told =
-    subst (λ (r : Reading). BeginsOne (reads_for (form_of words)) (IsEffectAfter listings (form_of words) r) old new s)
+    subst (λ (r : Reading). BeginsOne IsBegun (reads_for (form_of words)) (IsEffectAfter listings (form_of words) r) old new s)
     (read_for_words form words F h.reading (h.told F told) is)
-    (subst (λ (o : Option Form). BeginsOne (reads_for o) (IsEffectAfter listings o h.reading) old new s) is h.begins)
+    (subst (λ (o : Option Form). BeginsOne IsBegun (reads_for o) (IsEffectAfter listings o h.reading) old new s) is h.begins)
 
 -- ---- what is complete
 

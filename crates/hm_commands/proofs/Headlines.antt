@@ -28,7 +28,7 @@ use Rattle.hm_commands.specs.declared.status.Status.{Status}
 use Rattle.hm_commands.specs.declared.status.Status.TheVariants.{Done, Ended, Usage, Refused, HostFault, NoMemory}
 use Rattle.hm_commands.specs.Commands.{AreListings, reported, told, run_outcome, seq_outcome, unless_refused}
 use Rattle.hm_commands.specs.Effect.{Effect, Reading, whole, then_read, reading_of, reads_for, IsEffect, IsEffectAfter, effect_for, with_file, with_text}
-use Rattle.hm_commands.specs.Effect.{BeginsOne, Carries, Does}
+use Rattle.hm_commands.specs.Effect.{BeginsOne, Carries, Does, IsBegun}
 use Rattle.hm_sched.specs.Schedule.{Sched, plain, ticks_of}
 use Rattle.hm_sched.specs.declared.errors.SchedErr.{SchedErr}
 use Rattle.hm_sched.proofs.FileLaws.{file_again}
@@ -106,7 +106,7 @@ left e F P old new NoMemory h files printed ne = inl refl
 
 -- the effect that was carried out is this one
 left_one : (names : List (List ℕ)) (Is : Effect → Type 0) (d : Effect) (F : FileMap) (P : List ℕ) (old new : HostState) (s : Status)
-    → ((e : Effect) → Is e → e ≡ d) → BeginsOne names Is old new s
+    → ((e : Effect) → Is e → e ≡ d) → BeginsOne IsBegun names Is old new s
     → old.files ≡ Some F → old.printed ≡ Some P → s ≢ HostFault → (s ≡ NoMemory) ⊎ Left d F P new s
 left_one names Is d F P old new s only h files printed ne = elim h [
   | inl one ↦ left d F P old new s (subst (λ (e : Effect). Carries e old new s) (only one.0 one.1) one.2.carries) files printed ne

@@ -68,7 +68,7 @@ none_of names e F old new s told h =
     }
 
 pub does_one : (names : List (List ℕ)) (Is : Effect → Type 0) (F : FileMap) (old new : HostState) (s : Status) → old.files ≡ Some F → (e : Effect) × Is e
-    → BeginsOne names Is old new s
+    → BeginsOne IsBegun names Is old new s
     → (e : Effect) × Is e × DoesEffect (read_calls F names) e old new s
 does_one names Is F old new s told some (inl one) = (one.0, one.1, all_of names one.0 F old new s told one.2)
 does_one names Is F old new s told some (inr none) = (some.0, some.1, none_of names some.0 F old new s told none)

@@ -191,16 +191,17 @@ pub record IsNotReached (names : List (List ℕ)) (old new : HostState) (status 
   pub untouched : IsUntouched old new status
   pub calls : (F : FileMap) → old.files ≡ Some F → CutsReads (read_calls F names) old.calls new.calls (way_of status)
 
--- one of these effects is begun, or none was reached
-abbrev pub BeginsOne : List (List ℕ) → (Effect → Type 0) → HostState → HostState → Status → Type 0
-BeginsOne names Is old new status = ((e : Effect) × Is e × IsBegun names e old new status) ⊎ IsNotReached names old new status
+-- one of these effects is begun behind the reads of these files, as Begun says it of effects of its type, or none was reached
+abbrev pub BeginsOne : {E : Type 0} → (List (List ℕ) → E → HostState → HostState → Status → Type 0) → List (List ℕ) → (E → Type 0) → HostState
+    → HostState → Status → Type 0
+BeginsOne {E} Begun names Is old new status = ((e : E) × Is e × Begun names e old new status) ⊎ IsNotReached names old new status
 
 -- one of the effects that there are by what comes of the reads of these files is begun, or none was reached; where the files are told, what comes of the
 -- reads is what they hold
 pub record DoesOne (names : List (List ℕ)) (Is : Reading → Effect → Type 0) (old new : HostState) (status : Status) : Type 0 where
   pub reading : Reading
   pub told : (F : FileMap) → old.files ≡ Some F → reading ≡ reading_of F names
-  pub begins : BeginsOne names (Is reading) old new status
+  pub begins : BeginsOne IsBegun names (Is reading) old new status
 
 -- so of the effects of a form
 abbrev pub Does : (List Segment → Listing) → Option Form → HostState → HostState → Status → Type 0
