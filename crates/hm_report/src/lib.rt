@@ -14,7 +14,7 @@ use hm_run::Outcome;
 use hm_text_base::{decimal, hex_bytes, text};
 use hm_window::Window;
 pub use laws::report_law;
-pub use outcome_text::{kind_text, outcome_line, reason_text, slot_text, who_text};
+pub use outcome_text::{halted_text, kind_text, outcome_line, slot_text, who_text, word_text};
 use registers_text::register_lines;
 use std::alloc::Global;
 

@@ -3,7 +3,7 @@
 ghost use Rattle.std.specs.Prelude.{◌≡◌, ◌++◌, IfOk};
 ghost use Rattle.hm_text_base.specs.Texts.{hex8};
 ghost use Rattle.hm_run.specs.Report.{kind_text, who_text, address_text, reason_text, register_text, word_text, place_text, slot_text, rule_text, broken_text};
-ghost use Rattle.hm_run.specs.Report.{offence_text, ended_text, outcome_text, outcome_line};
+ghost use Rattle.hm_run.specs.Report.{offence_text, halted_text, ended_text, outcome_text, outcome_line};
 
 use hm_base::{Fault, FaultKind, OutOfMemory, Place};
 use hm_exc::{Broken, Slot};
@@ -42,7 +42,7 @@ pub fn who_text(who: Who) -> &'static [u8]
 }
 
 /// Adds why a program halts.
-pub fn reason_text(alloc: Global, out: &mut Vec<u8>, reason: Reason) -> Result<(), OutOfMemory>
+fn reason_text(alloc: Global, out: &mut Vec<u8>, reason: Reason) -> Result<(), OutOfMemory>
     ensures { IfOk result (λ _. out.new.items ≡ reason_text reason out.old.items) }
 {
     match reason {
@@ -81,8 +81,8 @@ fn register_text(alloc: Global, out: &mut Vec<u8>, n: u8) -> Result<(), OutOfMem
     decimal(alloc, out, n as u64)
 }
 
-/// Adds the name of word k of all vector registers, as a word of one of them.
-fn word_text(alloc: Global, out: &mut Vec<u8>, k: u8) -> Result<(), OutOfMemory>
+/// Adds the name of word k of all vector registers, as a word of one of them: `q1.2` of word 6.
+pub fn word_text(alloc: Global, out: &mut Vec<u8>, k: usize) -> Result<(), OutOfMemory>
     ensures { IfOk result (λ _. out.new.items ≡ word_text k out.old.items) }
 {
     text(out, b"q")?;
@@ -105,7 +105,7 @@ fn place_text(alloc: Global, out: &mut Vec<u8>, place: Place) -> Result<(), OutO
 {
     match place {
         Place::R(n) => register_text(alloc, out, n),
-        Place::QWord(k) => word_text(alloc, out, k),
+        Place::QWord(k) => word_text(alloc, out, k as usize),
         Place::P0(b) => slice_text(alloc, out, b),
         Place::Mask01 => text(out, b"mask01"),
         Place::Mask23 => text(out, b"mask23"),
@@ -208,8 +208,13 @@ fn offence_text(alloc: Global, out: &mut Vec<u8>, what: Offence) -> Result<(), O
 }
 
 /// Adds why the program halted, and after how many instructions.
-fn halted_text(alloc: Global, out: &mut Vec<u8>, reason: Reason, n: u64) -> Result<(), OutOfMemory>
-    ensures { IfOk result (λ _. out.new.items ≡ ended_text (Outcome.Halted reason n) out.old.items) }
+pub fn halted_text(
+    alloc: Global,
+    out: &mut Vec<u8>,
+    reason: Reason,
+    n: u64,
+) -> Result<(), OutOfMemory>
+    ensures { IfOk result (λ _. out.new.items ≡ halted_text reason n out.old.items) }
 {
     text(out, b"halted ")?;
     reason_text(alloc, out, reason)?;

@@ -102,9 +102,13 @@ offence_text (offence.Left b) out = broken_text b out
 offence_text (offence.Store addr) out = out ++ codes "store " ++ hex8 addr
 offence_text (offence.Call pc) out = out ++ codes "call " ++ hex8 pc
 
+-- a halt: why, and after how many instructions
+abbrev pub halted_text : Reason → ℕ → List ℕ → List ℕ
+halted_text reason n out = reason_text reason (out ++ codes "halted ") ++ codes " after " ++ decimal n
+
 -- the outcome of a run that has ended
 abbrev pub ended_text : Outcome → List ℕ → List ℕ
-ended_text (outcome.Halted reason n) out = reason_text reason (out ++ codes "halted ") ++ codes " after " ++ decimal n
+ended_text (outcome.Halted reason n) out = halted_text reason n out
 ended_text (outcome.Fault who f pc n) out =
     address_text pc f.addr (out ++ codes "fault " ++ who_text who ++ codes " " ++ kind_text f.kind) ++ codes " after " ++ decimal n
 ended_text (outcome.RuleBroken t step r) out = rule_text r (out ++ codes "rule tick " ++ decimal t ++ codes " step " ++ decimal step ++ codes " ")

@@ -5,21 +5,11 @@ ghost use Rattle.hm_shake.specs.Kinds.{kind_text};
 ghost use Rattle.hm_shake.specs.Texts.{count_line, counts_text, plain_line};
 
 use hm_base::{FaultKind, OutOfMemory};
-use hm_report::{kind_text, reason_text, slot_text, who_text};
-use hm_run::{Reason, Who};
+use hm_report::{halted_text, kind_text, slot_text, who_text};
+use hm_run::Who;
 use hm_shake_runs::{Found, Kind};
 use hm_text_base::{decimal, text};
 use std::alloc::Global;
-
-/// Adds a halt.
-fn add_halted(alloc: Global, out: &mut Vec<u8>, reason: Reason, n: u64) -> Result<(), OutOfMemory>
-    ensures added { IfOk result (λ _. out.new.items ≡ kind_text (Kind.Halted reason n) out.old.items) }
-{
-    text(out, b"halted ")?;
-    reason_text(alloc, out, reason)?;
-    text(out, b" after ")?;
-    decimal(alloc, out, n)
-}
 
 /// Adds a fault.
 fn add_fault(out: &mut Vec<u8>, who: Who, kind: FaultKind) -> Result<(), OutOfMemory>
@@ -36,7 +26,7 @@ pub fn add_kind(alloc: Global, out: &mut Vec<u8>, kind: Kind) -> Result<(), OutO
     ensures added { IfOk result (λ _. out.new.items ≡ kind_text kind out.old.items) }
 {
     match kind {
-        Kind::Halted { reason, n } => add_halted(alloc, out, reason, n),
+        Kind::Halted { reason, n } => halted_text(alloc, out, reason, n),
         Kind::Fault { who, kind } => add_fault(out, who, kind),
         Kind::Rule => text(out, b"rule"),
         Kind::Register { name } => {

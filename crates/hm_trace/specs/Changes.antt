@@ -1,20 +1,17 @@
 -- REGISTERS THAT CHANGED, each with its new value.
-use Rattle.std.specs.Prelude.{ℕ, zero, suc, ◌+◌, ◌/◌, ◌%◌, Bool, ◌&&◌, nat_eq, if◌then◌else◌, List, [], ◌++◌, codes, slice_index}
+use Rattle.std.specs.Prelude.{ℕ, zero, suc, ◌+◌, Bool, ◌&&◌, nat_eq, if◌then◌else◌, List, [], ◌++◌, codes, slice_index}
 use Rattle.std.proofs.Math.Bool.{beq}
 use Rattle.std.specs.Fmt.{decimal}
 use Rattle.hm_regs.specs.declared.Regs.{Regs}
+use Rattle.hm_run.specs.Report.{word_text}
 use Rattle.hm_text_base.specs.Texts.{binary_digit, hex2, hex8}
 use Rattle.hm_trace.specs.declared.changes.Word.{Word}
 use Rattle.hm_trace.specs.declared.changes.Word.TheVariants.{Core, Vector, Sp, Other, Lr, Fpscr, Vpr}
 
--- the name of word k of all vector registers: four are a register
-abbrev pub vector_name : ℕ → List ℕ
-vector_name k = codes "q" ++ decimal (k / 4) ++ codes "." ++ decimal (k % 4)
-
 -- the name of a word
 abbrev pub word_name : Word → List ℕ
 word_name (Core n) = codes "r" ++ decimal n
-word_name (Vector k) = vector_name k
+word_name (Vector k) = word_text k []
 word_name Sp = codes "sp"
 word_name Other = codes "other"
 word_name Lr = codes "lr"

@@ -2,10 +2,11 @@
 
 ghost use Rattle.std.specs.Prelude.{◌≡◌, ◌++◌, IfOk};
 ghost use Rattle.hm_trace.specs.Changes.{bit_change, byte_change, changes, control_changes, core_changes, flags_change, flags_text, pointer_changes};
-ghost use Rattle.hm_trace.specs.Changes.{same_flags, status_changes, vector_changes, vector_name, word_change, word_name};
+ghost use Rattle.hm_trace.specs.Changes.{same_flags, status_changes, vector_changes, word_change, word_name};
 
 use hm_base::OutOfMemory;
 use hm_regs::Regs;
+use hm_report::word_text;
 use hm_text_base::{binary_digit, decimal, hex2, hex8, text};
 use std::alloc::Global;
 
@@ -23,16 +24,6 @@ enum Word {
     Vpr,
 }
 
-/// Adds the name of a word of a vector register.
-fn add_vector_name(alloc: Global, out: &mut Vec<u8>, k: usize) -> Result<(), OutOfMemory>
-    ensures added { IfOk result (λ _. out.new.items ≡ out.old.items ++ vector_name k) }
-{
-    text(out, b"q")?;
-    decimal(alloc, out, (k / 4) as u64)?;
-    text(out, b".")?;
-    decimal(alloc, out, (k % 4) as u64)
-}
-
 /// Adds the name of a word.
 fn add_name(alloc: Global, out: &mut Vec<u8>, word: Word) -> Result<(), OutOfMemory>
     ensures added { IfOk result (λ _. out.new.items ≡ out.old.items ++ word_name word) }
@@ -42,7 +33,7 @@ fn add_name(alloc: Global, out: &mut Vec<u8>, word: Word) -> Result<(), OutOfMem
             text(out, b"r")?;
             decimal(alloc, out, n as u64)
         }
-        Word::Vector(k) => add_vector_name(alloc, out, k),
+        Word::Vector(k) => word_text(alloc, out, k),
         Word::Sp => text(out, b"sp"),
         Word::Other => text(out, b"other"),
         Word::Lr => text(out, b"lr"),
