@@ -6,8 +6,9 @@ use Rattle.std.proofs.lemmas.List.{map-append}
 use Rattle.std.proofs.lemmas.List.Elements.{All-append, All-cons, All-nil}
 use Rattle.std.proofs.lemmas.List.Sums.{sum_by-append}
 use Rattle.std.proofs.lemmas.Nat.{div_below, mul-le}
+use Rattle.hm_base.specs.Draws.{draw, drawn}
 use Rattle.hm_sched.specs.Schedule.{TickLine, most_ticks, total}
-use Rattle.hm_shake_runs.specs.Draws.{draw, drawn, part}
+use Rattle.hm_shake_runs.specs.Draws.{part}
 use Rattle.hm_shake_runs.specs.Shaken.{gap_of, gap_part, interrupt_part, pairs, tail_part, with_tail}
 use Rattle.hm_shake_runs.specs.Stretches.{IsStretch, stretch_line}
 use Rattle.hm_shake_runs.specs.declared.stretches.Stretch.{Stretch}

@@ -6,11 +6,11 @@ use Rattle.std.proofs.lemmas.Bool.{cases_Bool}
 use Rattle.std.specs.List.{All}
 use Rattle.std.specs.Option.{is_some}
 use Rattle.std.proofs.lemmas.List.Elements.{All-cons, All-nil}
+use Rattle.hm_base.specs.Draws.{drawn}
 use Rattle.hm_sched.specs.Schedule.{Sched, TickLine, most_irq, most_ticks, total}
 use Rattle.hm_sched.proofs.Ticks.{total-cons, total-push}
 use Rattle.hm_shake_runs.specs.Heads.{all_or, bare, is_named, named_from, numbers_from, words_name}
 use Rattle.hm_shake_runs.specs.Shaken.{gap_part, interrupt_part, pairs}
-use Rattle.hm_shake_runs.specs.Draws.{drawn}
 use Rattle.hm_shake_runs.specs.Stretches.{interrupts_in, one_if, quiet, quieted, stretch_line, with_stretches, without}
 use Rattle.hm_shake_runs.specs.declared.head.Head.{Head}
 use Rattle.hm_shake_runs.specs.declared.stretches.Stretch.{Stretch}

@@ -1,14 +1,6 @@
--- NUMBERS THAT ARE DRAWN, each from the one before.
-use Rattle.std.specs.Prelude.{ℕ, zero, suc, ◌+◌, ◌*◌, ◌/◌, ◌%◌, ◌^◌}
-
--- the draw behind a draw
-abbrev pub draw : ℕ → ℕ
-draw x = (1664525 * x + 1013904223) % 2 ^ 32
-
--- what stands after n draws
-abbrev pub drawn : ℕ → ℕ → ℕ
-drawn zero x = x
-drawn (suc n) x = drawn n (draw x)
+-- What the draws of a run begin with, and what they say.
+use Rattle.std.specs.Prelude.{ℕ, ◌+◌, ◌*◌, ◌/◌, ◌%◌, ◌^◌}
+use Rattle.hm_base.specs.Draws.{draw}
 
 -- what is drawn from in a run, by the seed and its number
 abbrev pub first : ℕ → ℕ → ℕ

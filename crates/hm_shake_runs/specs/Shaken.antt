@@ -1,8 +1,9 @@
 -- THE SCHEDULE OF A RUN, as a function of the seed, the number of the run, how many runs there are, how many ticks the plain run begins, the head of the
 -- schedule, and the interrupts that are drawn from.
 use Rattle.std.specs.Prelude.{ℕ, zero, suc, ◌+◌, ◌-◌, ◌*◌, ◌/◌, ◌^◌, List, [], ◌∷◌, ◌++◌, length, map, min, nat_eq, if◌then◌else◌, slice_index, Some, None}
+use Rattle.hm_base.specs.Draws.{drawn}
 use Rattle.hm_sched.specs.Schedule.{Sched, most_ticks, total}
-use Rattle.hm_shake_runs.specs.Draws.{drawn, first, part}
+use Rattle.hm_shake_runs.specs.Draws.{first, part}
 use Rattle.hm_shake_runs.specs.Heads.{bare}
 use Rattle.hm_shake_runs.specs.Stretches.{stretch_line, with_stretches}
 use Rattle.hm_shake_runs.specs.declared.head.Head.{Head}

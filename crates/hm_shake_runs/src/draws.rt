@@ -1,14 +1,9 @@
-//! Numbers that are drawn, each from the one before.
+//! What the draws of a run begin with, and what they say.
 
 ghost use Rattle.std.specs.Prelude.{◌≡◌, ◌<◌};
-ghost use Rattle.hm_shake_runs.specs.Draws.{draw, first, part};
+ghost use Rattle.hm_shake_runs.specs.Draws.{first, part};
 
-/// The next draw.
-pub fn draw(x: u32) -> u32
-    ensures value { result ≡ draw x }
-{
-    x.wrapping_mul(1_664_525).wrapping_add(1_013_904_223)
-}
+use hm_base::draw;
 
 /// What is drawn from in a run, by its number and the seed.
 pub fn first(seed: u32, run: u32) -> u32

@@ -14,7 +14,7 @@ mod stretches;
 mod whole;
 
 pub use cuts::{cut, without};
-pub use draws::{draw, first, part};
+pub use draws::{first, part};
 pub use found::{Found, Tally};
 pub use head::Head;
 pub use interrupts::interrupts_of;

@@ -6,10 +6,10 @@ ghost use Rattle.hm_sched.specs.Schedule.{most_irq, most_ticks, total};
 ghost use Rattle.hm_shake_runs.specs.Shaken.{digits, gap_part, interrupt_part, longest_gap, many_pairs, pairs, shaken, tail_part};
 ghost use Rattle.hm_shake_runs.specs.Stretches.{IsStretch, stretch_line};
 
-use crate::draws::{draw, first, part};
+use crate::draws::{first, part};
 use crate::plan::Plan;
 use crate::stretches::{Stretch, ticks_in};
-use hm_base::OutOfMemory;
+use hm_base::{OutOfMemory, draw};
 use hm_sched::MOST_TICKS;
 use std::alloc::Global;
 

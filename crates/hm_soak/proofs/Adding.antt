@@ -5,6 +5,7 @@ use Rattle.std.proofs.lemmas.Grind.{flat_map-append}
 use Rattle.std.proofs.lemmas.List.{append_assoc, length-append, take_more}
 use Rattle.std.specs.List.{flat_map}
 use Rattle.std.specs.Prelude.{IfOk, Result, Ok, Err}
+use Rattle.hm_base.specs.Draws.{draw, drawn}
 use Rattle.hm_base.specs.Image.{Segment, flash_size, flat}
 use Rattle.hm_base.specs.declared.errors.OutOfMemory.{OutOfMemory}
 use Rattle.hm_isa.specs.declared.Instr.{Instr}
@@ -12,7 +13,7 @@ use Rattle.hm_isa.specs.Code.{halfwords}
 use Rattle.hm_soak.specs.Adding.{AddsCodes}
 use Rattle.hm_code_bytes.specs.Bytes.{all_halves, half_bytes, word_bytes}
 use Rattle.hm_soak_laws.specs.Image.{IsItem, IsSoak, vectors}
-use Rattle.hm_soak_laws.specs.Soak.{Bkpt, Item, code, draw, drawn, fill, filled, handler, head, many, operation, operations}
+use Rattle.hm_soak_laws.specs.Soak.{Bkpt, Item, code, fill, filled, handler, head, many, operation, operations}
 use Rattle.hm_code_bytes.proofs.Bytes.{all_append, halves_append, length_halves}
 use Rattle.hm_code_bytes.proofs.Made.{items_append}
 use Rattle.hm_soak_laws.proofs.Whole.{size_is}

@@ -1,11 +1,12 @@
 //! The code of a soak, from its draws.
 
 ghost use Rattle.std.specs.Prelude.{◌≡◌, ◌/◌, ◌%◌, ◌<◌, [], ◌∷◌, IfOk};
+ghost use Rattle.hm_base.specs.Draws.{drawn};
 ghost use Rattle.hm_soak.specs.Adding.{AddsCodes};
-ghost use Rattle.hm_soak_laws.specs.Soak.{Bkpt, Movt, Movw, code, draw, drawn, fill, filled, handler, head, many, operations};
+ghost use Rattle.hm_soak_laws.specs.Soak.{Bkpt, Movt, Movw, code, fill, filled, handler, head, many, operations};
 
 use crate::rows::{branch_to_link, no_operation, operation, store};
-use hm_base::OutOfMemory;
+use hm_base::{OutOfMemory, draw};
 use hm_code_bytes::add_code;
 use hm_code_bytes::rows::{breakpoint_row, byte_row, duplicate_row, half_row};
 use hm_isa::{ByteName, Element, HalfName};
@@ -15,13 +16,6 @@ pub const OPERATIONS: u32 = 4096;
 
 /// The device word of which a store of 1 enables interrupt 0.
 const INTERRUPT_ENABLES: u32 = 0xe000_e100;
-
-/// The draw after x.
-fn draw(x: u32) -> u32
-    ensures next { result ≡ draw x }
-{
-    x.wrapping_mul(1_664_525).wrapping_add(1_013_904_223)
-}
 
 /// Adds the instructions that put a word into a register below 13.
 fn add_constant(out: &mut Vec<u8>, d: u32, word: u32) -> Result<(), OutOfMemory>

@@ -1,6 +1,7 @@
 -- Each item of a soak is an instruction, so a soak has an image.
 use Rattle.std.proofs.Common.{ℕ, zero, suc, ◌+◌, ◌^◌, ◌<◌, ◌≤◌, List, ◌∷◌, ◌++◌, refl, arith}
 use Rattle.std.specs.List.{AllByRecursion}
+use Rattle.hm_base.specs.Draws.{draw, drawn}
 use Rattle.hm_base.specs.Image.{Segment, flat}
 use Rattle.hm_isa.specs.declared.Branch.TheVariants as branch
 use Rattle.hm_isa.specs.declared.Instr.{Instr}
@@ -22,7 +23,7 @@ use Rattle.hm_code_bytes.specs.Bytes.{all_halves, half_bytes}
 use Rattle.hm_code_bytes.proofs.Made.{field, fit_append, some_add, some_bitwise, some_breakpoint, some_byte, some_duplicate, some_half, some_items, some_signed}
 use Rattle.hm_soak_laws.specs.Image.{IsItem, IsOperation, IsSoak, vectors}
 use Rattle.hm_soak_laws.specs.Soak as soak
-use Rattle.hm_soak_laws.specs.Soak.{Item, Operation, Movw, Movt, Movs, Str, Vdup, Lanes, Bkpt, Nop, Bx, code, draw, drawn, fill, filled, handler, head, many}
+use Rattle.hm_soak_laws.specs.Soak.{Item, Operation, Movw, Movt, Movs, Str, Vdup, Lanes, Bkpt, Nop, Bx, code, fill, filled, handler, head, many}
 use Rattle.hm_soak_laws.specs.Soak.{operation, operations}
 
 -- its numbers fit their fields
@@ -79,16 +80,13 @@ some_item Nop h = some_nop
 some_item (Bx m) h = some_jump m h.0 h.1 h.2
 
 -- THE ITEMS of a soak
-below_word : (x : ℕ) → draw x < 2 ^ 32
-below_word x = omega arith
-
 filled_given : (j v : ℕ) → j < 4 → v < 2 ^ 32 → AreGiven (filled j v)
 filled_given j v h k = ((omega arith, omega arith), ((omega arith, omega arith), ((omega arith, omega arith), tt)))
 
 fill_given : (n j x : ℕ) → j + n ≤ 4 → AreGiven (fill n j x)
 unfolding fill
 fill_given zero j x h = tt
-fill_given (suc n) j x h = fit_append IsGiven (filled j (draw x)) (fill n (j + 1) (draw x)) (filled_given j (draw x) (omega arith) (below_word x))
+fill_given (suc n) j x h = fit_append IsGiven (filled j (draw x)) (fill n (j + 1) (draw x)) (filled_given j (draw x) (omega arith) (omega arith))
     (fill_given n (j + 1) (draw x) (omega arith))
 
 operation_given : (k v : ℕ) → IsGiven (operation k v)

@@ -1,11 +1,12 @@
 -- Where the handler of a soak stands.
 use Rattle.std.proofs.Common.{◌≡◌, ℕ, zero, suc, ◌+◌, ◌*◌, List, [], ◌∷◌, ◌++◌, refl, subst, arith}
+use Rattle.hm_base.specs.Draws.{draw, drawn}
 use Rattle.hm_base.specs.Image.{Segment, flash_byte, flat}
 use Rattle.hm_codes.specs.Listing.{IsListing, Listing}
 use Rattle.hm_isa.specs.declared.Instr.{Instr}
 use Rattle.hm_code_bytes.specs.Bytes.{all_halves, half_bytes}
 use Rattle.hm_soak_laws.specs.Image.{AreItems, HandlerStands, IsSoak, handler_address, vectors}
-use Rattle.hm_soak_laws.specs.Soak.{Bkpt, Item, code, draw, drawn, fill, handler, head, many, operations}
+use Rattle.hm_soak_laws.specs.Soak.{Bkpt, Item, code, fill, handler, head, many, operations}
 use Rattle.hm_soak_laws.specs.Straight.{StandFrom, widths}
 use Rattle.hm_soak_laws.proofs.Items.{item_halves, item_width}
 use Rattle.hm_soak_laws.proofs.Standing.{stand_back}

@@ -2,6 +2,7 @@
 use Rattle.std.proofs.Common.{◌≡◌, ℕ, zero, suc, ◌+◌, ◌*◌, ◌≤◌, length, List, [], ◌∷◌, ◌++◌, refl, sym, ap, subst, arith}
 use Rattle.std.specs.List.{AllByRecursion}
 use Rattle.std.proofs.lemmas.List.{length-append}
+use Rattle.hm_base.specs.Draws.{draw}
 use Rattle.hm_isa.specs.declared.Instr.{Instr}
 use Rattle.hm_isa.specs.declared.Instr.TheVariants as instr
 use Rattle.hm_isa.specs.declared.Scalar.TheVariants as scalar
@@ -11,7 +12,7 @@ use Rattle.hm_code_bytes.specs.Bytes.{all_halves}
 use Rattle.hm_code_bytes.proofs.Made.{fit_append}
 use Rattle.hm_soak_laws.specs.Image.{AreItems, IsItem, IsOperation}
 use Rattle.hm_soak_laws.specs.Soak as soak
-use Rattle.hm_soak_laws.specs.Soak.{Item, Operation, Movw, Movt, Movs, Str, Vdup, Lanes, Bkpt, Nop, Bx, draw, fill, operations}
+use Rattle.hm_soak_laws.specs.Soak.{Item, Operation, Movw, Movt, Movs, Str, Vdup, Lanes, Bkpt, Nop, Bx, fill, operations}
 use Rattle.hm_soak_laws.specs.Straight.{AllGoOn, AlwaysGoesOn}
 use Rattle.hm_soak_laws.proofs.Rows.{byte_goes, half_goes, vector_goes}
 

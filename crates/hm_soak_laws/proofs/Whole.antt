@@ -3,6 +3,7 @@ use Rattle.std.proofs.Common.{◌≡◌, ℕ, ◌+◌, ◌-◌, ◌*◌, ◌%◌
 use Rattle.std.specs.Prelude.{Ok, slice_index}
 use Rattle.std.proofs.lemmas.List.{length-append}
 use Rattle.std.proofs.lemmas.Slice.Zip.{AllZip-long}
+use Rattle.hm_base.specs.Draws.{drawn}
 use Rattle.hm_base.specs.Image.{Segment, flash_byte, flash_size, flat}
 use Rattle.hm_codes.specs.Listing.{HalvesStand, IsListing, Listing}
 use Rattle.hm_handlers.specs.Runs.{run_out}
@@ -12,7 +13,7 @@ use Rattle.hm_run.specs.declared.Reason.{Reason}
 use Rattle.hm_state.specs.Start.{reset_pc, start, start_under}
 use Rattle.hm_code_bytes.specs.Bytes.{all_halves, half_bytes}
 use Rattle.hm_soak_laws.specs.Image.{AreItems, IsItem, IsSoak, vectors}
-use Rattle.hm_soak_laws.specs.Soak.{Bkpt, Item, code, drawn, fill, handler, head, many, operations}
+use Rattle.hm_soak_laws.specs.Soak.{Bkpt, Item, code, fill, handler, head, many, operations}
 use Rattle.hm_sched.specs.Schedule.{Sched, plain}
 use Rattle.hm_soak_laws.specs.Schedule.{in_order_schedule, schedule}
 use Rattle.hm_soak_laws.specs.Straight.{ComesTo, StandFrom, widths}

@@ -1,14 +1,6 @@
--- The instructions of a soak, from its draws.
-use Rattle.std.specs.Prelude.{ℕ, zero, suc, ◌+◌, ◌*◌, ◌/◌, ◌%◌, ◌^◌, if◌then◌else◌, nat_eq, List, [], ◌∷◌, ◌++◌}
-
--- a draw, from the one before or, for the first, from the number of the soak
-abbrev pub draw : ℕ → ℕ
-draw x = (1664525 * x + 1013904223) % 2 ^ 32
-
--- what stands after n draws
-abbrev pub drawn : ℕ → ℕ → ℕ
-drawn zero x = x
-drawn (suc n) x = drawn n (draw x)
+-- The instructions of a soak, from its draws, of which the first is that behind its number.
+use Rattle.std.specs.Prelude.{ℕ, zero, suc, ◌+◌, ◌*◌, ◌/◌, ◌%◌, if◌then◌else◌, nat_eq, List, [], ◌∷◌, ◌++◌}
+use Rattle.hm_base.specs.Draws.{draw, drawn}
 
 -- the operations on lanes, of 32 bits: vadd.i32, vsub.i32, vmul.i32, veor, vmax.s32
 pub data Operation : Type 0 where

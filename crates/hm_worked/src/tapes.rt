@@ -4,6 +4,7 @@ ghost use Rattle.std.specs.Prelude.{◌<◌};
 
 use crate::runs::{image_of, shown};
 use anyhow::{Context, Result, bail};
+use hm_base::draw;
 use hm_machine::{Machine, Past, Tape};
 use hm_sched::{MOST_TICKS, parse};
 use std::alloc::Global;
@@ -28,13 +29,13 @@ fn order_of(name: &str) -> Result<Order> {
 }
 
 /// The tick that is asked for behind k others, of so many, by a draw.
-fn asked(order: Order, k: usize, count: usize, draw: u32) -> usize
+fn asked(order: Order, k: usize, count: usize, drawn: u32) -> usize
     requires one { k < count }
 {
     match order {
         Order::Forwards => k,
         Order::Backwards => count - 1 - k,
-        Order::Drawn => (draw >> 8) as usize % count,
+        Order::Drawn => (drawn >> 8) as usize % count,
     }
 }
 
@@ -63,10 +64,10 @@ fn shown_at(alloc: Global, tape: &mut Tape, tick: u32) -> Result<Vec<u8>> {
 /// How often a tape shows what a machine does that runs once, if as many ticks as it has are asked for in an order.
 fn count_alike(alloc: Global, tape: &mut Tape, film: &[Vec<u8>], order: Order) -> Result<u32> {
     let mut alike = 0_u32;
-    let mut draw = 1_u32;
+    let mut drawn = 1_u32;
     for k in 0..film.len() {
-        draw = draw.wrapping_mul(1_664_525).wrapping_add(1_013_904_223);
-        let tick = asked(order, k, film.len(), draw);
+        drawn = draw(drawn);
+        let tick = asked(order, k, film.len(), drawn);
         let wanted = film.get(tick).context("no tick")?;
         let tick = u32::try_from(tick).context("too many ticks")?;
         if shown_at(alloc, tape, tick)? == *wanted {

@@ -1,5 +1,5 @@
 use Rattle.std.proofs.Common.{◌≡◌, ℕ, ◌+◌, ◌-◌, ◌++◌, ◌∙◌, ap}
-use Rattle.hm_shake_runs.specs.Draws.{draw, drawn}
+use Rattle.hm_base.specs.Draws.{draw, drawn}
 use Rattle.hm_shake_runs.specs.Shaken.{interrupt_part, pairs}
 use Rattle.hm_shake_runs.proofs.Turns.{pairs_turn}
 use Rattle.hm_shake_runs.proofs.making.add_pairs.Goals as goal

@@ -1,5 +1,6 @@
 use Rattle.std.proofs.Common.{◌≡◌, ℕ, ap, ◌∙◌, subst, arith}
-use Rattle.hm_soak_laws.specs.Soak.{drawn, fill}
+use Rattle.hm_base.specs.Draws.{drawn}
+use Rattle.hm_soak_laws.specs.Soak.{fill}
 use Rattle.hm_soak.specs.Adding.{AddsCodes}
 use Rattle.hm_soak.proofs.Adding.{fills_next, fills_none}
 use Rattle.hm_soak.proofs.code.add_fill.Goals as goal
@@ -9,7 +10,7 @@ loop-j-init c = fills_none c.args.number c.args.out.now.items
 
 pub loop-j-preserved : goal.loop-j-preserved
 loop-j-preserved c = fills_next c.args.number c.args.out.now.items c.loop-j.j c.loop-j.x c.draw-x.result c.loop-j.out.items c.add_filled.new.out.items
-    c.loop-j.invariant c.draw-x.ensures.next c.in_ok-add_filled.ensures.codes
+    c.loop-j.invariant c.draw-x.ensures.value c.in_ok-add_filled.ensures.codes
 
 pub returns-clause-codes : goal.returns-clause-codes
 returns-clause-codes c =

@@ -10,7 +10,7 @@ loop-k-init c = operates_none c.args.last c.args.out.now.items
 pub loop-k-preserved : goal.loop-k-preserved
 loop-k-preserved c =
     operates_next c.args.last c.args.out.now.items c.loop-k.k c.loop-k.x c.draw-x.result c.operation.result c.loop-k.out.items c.add_code.new.out.items
-    c.loop-k.invariant c.draw-x.ensures.next c.operation.ensures.row
+    c.loop-k.invariant c.draw-x.ensures.value c.operation.ensures.row
     c.in_ok-add_code.ensures.added
 
 pub returns : goal.returns
