@@ -1,12 +1,12 @@
 -- The file that an image is written as holds that image.
-use Rattle.std.proofs.Common.{◌≡◌, ℕ, zero, suc, ◌+◌, ◌*◌, ◌/◌, ◌%◌, ◌^◌, ◌<◌, ◌≤◌, Bool, cond, List, [], ◌∷◌, ◌++◌, length, map, take, drop, inl, inr, refl}
+use Rattle.std.proofs.Common.{◌≡◌, ℕ, suc, ◌+◌, ◌*◌, ◌/◌, ◌%◌, ◌^◌, ◌<◌, ◌≤◌, Bool, cond, List, [], ◌∷◌, ◌++◌, length, map, take, drop, inl, inr, refl}
 use Rattle.std.proofs.Common.{sym, ap, subst, ◌∙◌, arith, append_assoc, add-one, length-append}
 use Rattle.std.specs.List.{AllByRecursion}
 use Rattle.std.proofs.lemmas.Bool.{lt-ltb}
 use Rattle.std.proofs.lemmas.List.{take_at, drop_all, drop_at, append-nil}
 use Rattle.std.proofs.lemmas.Nat.{from_le_bytes-to_le_bytes_2, from_le_bytes-to_le_bytes_4}
 use Rattle.hm_base.specs.Image.{Segment, segment, segment_at, IsPlaced, IsImage}
-use Rattle.hm_base.proofs.Images.{placed_below}
+use Rattle.hm_base.proofs.Images.{drop_segment, placed_below}
 use Rattle.hm_elf.specs.declared.reading.ProgramHeader.{ProgramHeader}
 use Rattle.hm_elf.specs.Elf.{half, word, header_size, entry_size, IsHeader, header_at, headers_in, headers_of, loading, loaded, IsLoaded, with_segments}
 use Rattle.hm_elf.specs.Elf.{IsImageFile}
@@ -168,18 +168,13 @@ file_again image i few =
 
 -- ---- the loops of the code
 
-next_segment : (image : List Segment) (k : ℕ) → k < length image → drop k image ≡ segment_at image k ∷ drop (suc k) image
-next_segment [] k l = absurd (omega arith)
-next_segment (s ∷ ss) zero l = refl
-next_segment (s ∷ ss) (suc k) l = next_segment ss k (omega arith)
-
 pub headers_step : (out : List ℕ) (offset k address : ℕ) (bytes : List ℕ) (image : List Segment) (whole : List ℕ) → k < length image
     → segment_at image k ≡ segment address bytes
     → out ++ program_headers offset (drop k image) ≡ whole
     → (out ++ program_header offset (segment address bytes)) ++ program_headers (offset + length bytes) (drop (k + 1) image) ≡ whole
 headers_step out offset k address bytes image whole l is so_far =
     let next : drop k image ≡ segment address bytes ∷ drop (k + 1) image
-    = next_segment image k l ∙ ap (λ (s : Segment). s ∷ drop (suc k) image) is ∙ ap (λ (n : ℕ). segment address bytes ∷ drop n image) (sym (add-one k)) in
+    = drop_segment image k l ∙ ap (λ (s : Segment). s ∷ drop (suc k) image) is ∙ ap (λ (n : ℕ). segment address bytes ∷ drop n image) (sym (add-one k)) in
     append_assoc out (program_header offset (segment address bytes)) (program_headers (offset + length bytes) (drop (k + 1) image))
     ∙ sym (ap (λ (ss : List Segment). out ++ program_headers offset ss) next) ∙ so_far
 
@@ -188,7 +183,7 @@ pub bytes_step : (out : List ℕ) (k address : ℕ) (bytes : List ℕ) (image : 
     → out ++ all_bytes (drop k image) ≡ whole → (out ++ bytes) ++ all_bytes (drop (k + 1) image) ≡ whole
 bytes_step out k address bytes image whole l is so_far =
     let next : drop k image ≡ segment address bytes ∷ drop (k + 1) image
-    = next_segment image k l ∙ ap (λ (s : Segment). s ∷ drop (suc k) image) is ∙ ap (λ (n : ℕ). segment address bytes ∷ drop n image) (sym (add-one k)) in
+    = drop_segment image k l ∙ ap (λ (s : Segment). s ∷ drop (suc k) image) is ∙ ap (λ (n : ℕ). segment address bytes ∷ drop n image) (sym (add-one k)) in
     append_assoc out bytes (all_bytes (drop (k + 1) image)) ∙ sym (ap (λ (ss : List Segment). out ++ all_bytes ss) next) ∙ so_far
 
 pub headers_done : (out : List ℕ) (offset k : ℕ) (image : List Segment) (whole : List ℕ) → length image ≤ k

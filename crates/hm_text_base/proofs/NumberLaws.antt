@@ -92,12 +92,13 @@ hex8_again n lt =
 
 -- ---- decimal
 
-abbrev read_on : ℕ → List ℕ → ℕ
+-- the number that decimal digits give behind a number
+abbrev pub read_on : ℕ → List ℕ → ℕ
 read_on n [] = n
 read_on n (c ∷ cs) = read_on (n * 10 + (c - 48)) cs
 
-own : IsNumeralModel (λ ds. all_ascii_digits ds ≡ true) (read_on 0)
-own = numerals_by_fold _ tells_all_ascii_digits read_on (search rules)
+pub numeral_model : IsNumeralModel (λ ds. all_ascii_digits ds ≡ true) (read_on 0)
+numeral_model = numerals_by_fold _ tells_all_ascii_digits read_on (search rules)
 
 digits_found : (ds : List ℕ) (n m : ℕ) → digits_in n ds ≡ Some m → (all_ascii_digits ds ≡ true) × (read_on n ds ≡ m)
 unfolding digits_in
@@ -129,8 +130,8 @@ digits_up_to_found most text n fits e =
     let none : length text ≢ 0 = eqb-false (length text) 0 t.0 in
     let some : 0 < length text = omega arith in
     let short : length text ≤ most = ltb-false most (length text) u.0 in
-    let small = digits_value_short own text most d.0 short in
-    let same = decimal-digits_value own text d.0 some (plain_first (length text) (get_or text 0 0) u.1 some) (omega (arith, small)) in
+    let small = digits_value_short numeral_model text most d.0 short in
+    let same = decimal-digits_value numeral_model text d.0 some (plain_first (length text) (get_or text 0 0) u.1 some) (omega (arith, small)) in
     (sym (subst (λ (x : ℕ). decimal x ≡ text) d.1 same), subst (λ (x : ℕ). x < 10 ^ most) d.1 small)
 
 pub number_found : (text : List ℕ) (n : ℕ) → number_in text ≡ Some n → (text ≡ decimal n) × (n < 10 ^ 8)
@@ -153,8 +154,8 @@ first_plain (suc n) wide is = absurd (omega (arith, first_decimal (suc n) (omega
 digits_up_to_again : (most n : ℕ) → 0 < most → n < 10 ^ most → 10 ^ most ≤ 10 ^ 10 → digits_up_to most (decimal n) ≡ Some n
 digits_up_to_again most n some lt fits =
     let wide : n < 2 ^ 64 = omega arith in
-    let all = digits_decimal own n wide in
-    let value = digits_value-decimal own n wide in
+    let all = digits_decimal numeral_model n wide in
+    let value = digits_value-decimal numeral_model n wide in
     let tests = passes most (length (decimal n)) (get_or (decimal n) 0 0) (decimal_nonempty n wide) (length-decimal-le most n some lt wide)
     (first_plain n wide) in
     rw tests (digits_again (decimal n) 0 all ∙ ap (λ (x : ℕ). Some x) value)
@@ -178,7 +179,7 @@ digits_lack mark (d ∷ ds) lt e =
     ((λ is. omega arith), digits_lack mark ds lt p.1)
 
 pub decimal_lacks : (mark n : ℕ) → mark < 48 → n < 10 ^ 8 → Lacks mark (decimal n)
-decimal_lacks mark n lt small = digits_lack mark (decimal n) lt (digits_decimal own n (omega arith))
+decimal_lacks mark n lt small = digits_lack mark (decimal n) lt (digits_decimal numeral_model n (omega arith))
 
 digit_above : (d mark : ℕ) → mark < 48 → hex_digit d ≢ mark
 digit_above d mark lt is = grind (arith, nat_tests)

@@ -1,6 +1,6 @@
 -- A text that is printed has the tokens that it was printed from.
 use Rattle.std.proofs.Common.{◌≡◌, ℕ, ◌+◌, ◌-◌, ◌*◌, ◌^◌, ◌<◌, ◌≤◌, min, Bool, true, false, eqb, ltb, List, [], ◌∷◌, ◌++◌, length, Some, refl, sym, ap, inl}
-use Rattle.std.proofs.Common.{inr, ◌∙◌, arith, rules}
+use Rattle.std.proofs.Common.{inr, ◌∙◌, arith}
 use Rattle.std.specs.Prelude.{decimal, ◌&&◌, ◌||◌}
 use Rattle.std.specs.List.{list_all}
 use Rattle.std.specs.Str.{all_ascii_digits}
@@ -8,9 +8,9 @@ use Rattle.std.proofs.Math.Bool.{or-true}
 use Rattle.std.proofs.lemmas.Bool.{cases_Bool, ne_eqb, and_parts, and_right}
 use Rattle.std.proofs.lemmas.Bool.Decides.{nat_tests}
 use Rattle.std.proofs.lemmas.List.{append-nil}
-use Rattle.std.proofs.lemmas.Str.Parse.{IsNumeralModel, numerals_by_fold, tells_all_ascii_digits}
 use Rattle.std.proofs.lemmas.Fmt.{digits_decimal, digits_value-decimal, decimal_nonempty}
 use Rattle.std.specs.Char.{is_ascii_digit}
+use Rattle.hm_text_base.proofs.NumberLaws.{numeral_model, read_on}
 use Rattle.hm_tokens.specs.declared.token.Class.{Class}
 use Rattle.hm_tokens.specs.declared.token.Class.TheVariants as classes
 use Rattle.hm_tokens.specs.Tokens.{Tok, word, number, mark, digit_byte, hex_sign, is_in, is_digit, run, digit, value, skip, is_hex, spell, token_at, comma}
@@ -76,13 +76,6 @@ mark_front c rest m =
 
 -- ---- numbers
 
-abbrev read_on : ℕ → List ℕ → ℕ
-read_on n [] = n
-read_on n (c ∷ cs) = read_on (n * 10 + (c - 48)) cs
-
-own : IsNumeralModel (λ ds. all_ascii_digits ds ≡ true) (read_on 0)
-own = numerals_by_fold _ tells_all_ascii_digits read_on (search rules)
-
 read_grows : (n : ℕ) (ds : List ℕ) → n ≤ read_on n ds
 read_grows n [] = omega arith
 read_grows n (c ∷ cs) = omega (arith, read_grows (n * 10 + (c - 48)) cs)
@@ -132,8 +125,8 @@ digits_front (c ∷ ds) rest all p some =
 number_front : (n : ℕ) (rest : List ℕ) → n < 2 ^ 32 → Parts rest → token_at (decimal n ++ rest) ≡ Some (number n, rest)
 number_front n rest lt p =
     let wide : n < 2 ^ 64 = omega arith in
-    let all = digits_decimal own n wide in
-    let is = digits_value-decimal own n wide in
+    let all = digits_decimal numeral_model n wide in
+    let is = digits_value-decimal numeral_model n wide in
     let v : value 10 0 (decimal n) ≡ n = value_small 0 (decimal n) all (rw is lt) ∙ is in
     digits_front (decimal n) rest all p (decimal_nonempty n wide) ∙ ap (λ (x : ℕ). Some (number x, rest)) v
 
@@ -195,7 +188,7 @@ begins (word (c ∷ w)) is =
     (c, w, refl, grind (arith, nat_tests, q.0))
 begins (number n) is =
     let wide : n < 2 ^ 64 = omega arith in
-    digits_begin (decimal n) (digits_decimal own n wide) (decimal_nonempty n wide)
+    digits_begin (decimal n) (digits_decimal numeral_model n wide) (decimal_nonempty n wide)
 begins (mark c) is = (c, [], refl, grind (arith, nat_tests, is.3))
 
 space_not : (text : List ℕ) (c : ℕ) (w rest : List ℕ) → text ≡ c ∷ w → eqb c 32 ≡ false → skip (text ++ rest) ≡ text ++ rest
