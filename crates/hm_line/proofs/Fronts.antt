@@ -57,10 +57,11 @@ all_read form text rest s r e end = (r.0, rest, r.1, e, lines.is_form form r.0 s
 abbrev pub Stuck : Form → State → List ℕ → Type 0
 Stuck form s rest = (t : Spaced) (after : List ℕ) → next rest ≡ Some (t, after) → line_step form s t.0 t.1 ≡ None
 
-nothing_next : (rest : List ℕ) → token_at (skip rest) ≡ None → next rest ≡ None
+-- nothing stands next where nothing is left
+pub nothing_next : (rest : List ℕ) → token_at (skip rest) ≡ None → next rest ≡ None
 nothing_next rest none = rw none refl
 
-differs : {A : Type 0} (x : Option A) (y : A) → x ≡ None → x ≡ Some y → ⊥
+pub differs : {A : Type 0} (x : Option A) (y : A) → x ≡ None → x ≡ Some y → ⊥
 differs x y none some = cc
 
 nothing_stuck : (form : Form) (s : State) (rest : List ℕ) → token_at (skip rest) ≡ None → Stuck form s rest
@@ -106,7 +107,7 @@ some_left text rest c some is = is
     not_end : (b : Bool) (x y : ℕ) → b ≡ false → cond b x y ≡ y
     not_end b x y e = rw e refl
 
-not_empty : (xs : List ℕ) → 0 < length xs → xs ≡ [] → ⊥
+pub not_empty : (xs : List ℕ) → 0 < length xs → xs ≡ [] → ⊥
 not_empty xs some e = let n : length xs ≡ 0 = ap length e in omega arith
 
 -- a byte of no token

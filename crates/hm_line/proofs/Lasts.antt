@@ -1,22 +1,16 @@
 -- The last token of a text.
-use Rattle.std.proofs.Common.{◌≡◌, ℕ, ◌<◌, List, [], ◌∷◌, length, Option, Some, None, refl, sym, ap, subst, ◌∙◌, arith}
+use Rattle.std.proofs.Common.{◌≡◌, ℕ, ◌<◌, List, [], ◌∷◌, length, Some, None, refl, sym, ap, subst, ◌∙◌, arith}
 use Rattle.std.proofs.lemmas.List.{nil_from_length}
 use Rattle.hm_text_base.proofs.Steps.{some_is}
 use Rattle.hm_tokens.specs.Tokens.{Tok, skip, token_at}
 use Rattle.hm_line.specs.Kinds.{kind}
 use Rattle.hm_line.specs.Forms.{Spaced}
 use Rattle.hm_line.specs.Texts.{IsLast, is_spaced, next}
-
--- nothing stands next where nothing is left
-nothing_next : (rest : List ℕ) → token_at (skip rest) ≡ None → next rest ≡ None
-nothing_next rest none = rw none refl
+use Rattle.hm_line.proofs.Fronts.{differs, nothing_next}
 
 ended : (rest : List ℕ) → skip rest ≡ [] → next rest ≡ None
 unfolding token_at
 ended rest e = nothing_next rest (rw e refl)
-
-differs : {A : Type 0} (x : Option A) (y : A) → x ≡ None → x ≡ Some y → ⊥
-differs x y none some = cc
 
 none_last : (rest : List ℕ) → next rest ≡ None → (h : List ℕ) → IsLast rest h → ⊥
 none_last rest none h ([], t, after, are, is, end) = differs (next rest) (t, after) none (subst (λ (x : List ℕ). next x ≡ Some (t, after)) (sym are) is)

@@ -1,11 +1,12 @@
 -- Commas that are passed, token by token.
-use Rattle.std.proofs.Common.{◌≡◌, ℕ, zero, suc, ◌-◌, ◌<◌, Bool, true, false, cond, List, [], ◌∷◌, Option, Some, None, refl, sym, ap, subst, ◌∙◌, arith}
+use Rattle.std.proofs.Common.{◌≡◌, ℕ, zero, suc, ◌-◌, ◌<◌, Bool, true, false, cond, List, [], ◌∷◌, Some, None, refl, sym, ap, subst, ◌∙◌, arith}
 use Rattle.hm_text_base.proofs.Steps.{some_is}
 use Rattle.hm_tokens.specs.Tokens.{Tok, skip, token_at}
 use Rattle.hm_line.specs.Columns.{ArePassed, IsOperand, is_between, is_inside}
 use Rattle.hm_line.specs.Forms.{Spaced, kinds}
 use Rattle.hm_line.specs.Kinds.{kind}
 use Rattle.hm_line.specs.Texts.{AreTokens, is_spaced, next}
+use Rattle.hm_line.proofs.Fronts.{differs}
 
 -- from here on n commas are passed up to there
 abbrev pub Passes : ℕ → Bool → List ℕ → List ℕ → Type 0
@@ -16,9 +17,6 @@ next_at rest here after t is e = rw (ap token_at (sym is) ∙ e) refl
 
 nothing_at : (rest here : List ℕ) → here ≡ skip rest → token_at here ≡ None → next rest ≡ None
 nothing_at rest here is e = rw (ap token_at (sym is) ∙ e) refl
-
-differs : {A : Type 0} (x : Option A) (y : A) → x ≡ None → x ≡ Some y → ⊥
-differs x y none some = cc
 
 left_is : (b : Bool) (j n : ℕ) → n ≡ cond b (suc j - 1) (suc j) → cond b j (suc j) ≡ n
 left_is true j n e = omega (arith, e)
