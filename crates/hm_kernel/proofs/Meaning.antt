@@ -1,7 +1,6 @@
 -- Bytes say one meaning: texts that are written alike have arrays alike, and lines that set the same.
 use Rattle.std.proofs.Common.{◌≡◌, ◌≢◌, ℕ, zero, suc, ◌+◌, ◌*◌, ◌<◌, List, [], ◌∷◌, ◌++◌, length, map, refl, subst, sym, ap, ◌∙◌, arith}
 use Rattle.std.specs.Prelude.{All, decimal, slice_index}
-use Rattle.std.specs.List.{AllByRecursion}
 use Rattle.std.proofs.lemmas.Fmt.{decimal_injective}
 use Rattle.std.proofs.lemmas.List.{append_assoc, length-map}
 use Rattle.std.proofs.lemmas.List.Elements.{All-head, All-tail}
@@ -20,6 +19,7 @@ use Rattle.hm_kernel_text.specs.Held.{array_written, expr_written, name_at, set_
 use Rattle.hm_kernel_text.specs.Trees.{Tree, apply, word}
 use Rattle.hm_kernel_text.specs.Words.{is_name}
 use Rattle.hm_kernel_text.specs.Written.{AreArrays, HasOtherName, IsKernel, Written, WrittenArray, WrittenSet}
+use Rattle.hm_kernel_text.proofs.TextLaws.{picked}
 
 -- the name of written array i
 abbrev written_name : List WrittenArray → ℕ → List ℕ
@@ -55,17 +55,11 @@ given_written : (t : ElementType) (xs : List Array) → given t xs ≡ written_g
 given_written t [] = refl
 given_written t (a ∷ xs) = ap (λ (m : Bytes). replaced t a.addr (length a.values.items) (λ j. slice_index a.values.items j) m) (given_written t xs)
 
--- what all of a list have, has one in its middle
-all_middle : (P : WrittenArray → Type 0) (before : List WrittenArray) (b : WrittenArray) (after : List WrittenArray) → AllByRecursion P (before ++ b ∷ after)
-    → P b
-all_middle P [] b after h = h.0
-all_middle P (a ∷ before) b after h = all_middle P before b after h.1
-
 -- an array behind another has another name
 other_name : (t : ElementType) (n : ℕ) (before : List WrittenArray) (b : WrittenArray) (after ws : List WrittenArray) → AreArrays t n (before ++ b ∷ after) ws
     → (k : ℕ) → k < length ws → b.name ≢ written_name ws k
 other_name t n before b after [] h k l = absurd (omega arith)
-other_name t n before b after (c ∷ ws) h zero l = all_middle (HasOtherName c.name) before b after h.0.other
+other_name t n before b after (c ∷ ws) h zero l = picked (HasOtherName c.name) before b after h.0.other
 other_name t n before b after (c ∷ ws) h (suc k) l =
     let h' = subst (λ (bs : List WrittenArray). AreArrays t n bs ws) (append_assoc before (b ∷ after) (c ∷ [])) h.1 in
     other_name t n before b (after ++ c ∷ []) ws h' k (omega arith)

@@ -5,7 +5,7 @@ use Rattle.std.proofs.Common.{append_assoc}
 use Rattle.std.specs.Prelude.{◌⊎◌, codes, decimal, bytes_eq, is_none, not, ◌&&◌, ◌||◌}
 use Rattle.std.specs.Char.{is_ascii_alphanumeric, is_ascii_digit, is_ascii_lowercase}
 use Rattle.std.specs.List.{AllByRecursion, list_all, list_any}
-use Rattle.std.proofs.lemmas.Bool.{eq-eqb, ne_eqb, le-leb, le-ltb, lt-ltb, and_parts}
+use Rattle.std.proofs.lemmas.Bool.{eq-eqb, ne_eqb, le-leb, le-ltb, lt-ltb, and_parts, and_right, or_right}
 use Rattle.std.proofs.lemmas.Bool.Decides.{nat_tests}
 use Rattle.std.proofs.Math.Bool.{or-true}
 use Rattle.std.proofs.lemmas.List.{append-nil, length-map, length_push}
@@ -51,14 +51,10 @@ are_named : (t : ElementType) (n : ℕ) (front arrays : List WrittenArray) → A
 are_named t n front [] are = tt
 are_named t n front (a ∷ more) are = (are.0.name, are_named t n (front ++ a ∷ []) more are.1)
 
-or_second : (x y : Bool) → y ≡ true → (x || y) ≡ true
-or_second true y e = refl
-or_second false y e = e
-
 there_again : (arrays : List WrittenArray) (name : List ℕ) → IsThere arrays name → is_there name arrays ≡ true
 there_again [] name there = absurd there
 there_again (a ∷ more) name (inl is) = rw ((bytes_eq-Decides a.name name).1 is) refl
-there_again (a ∷ more) name (inr there) = or_second (bytes_eq a.name name) (is_there name more) (there_again more name there)
+there_again (a ∷ more) name (inr there) = or_right (bytes_eq a.name name) (is_there name more) (there_again more name there)
 
 there_named : (arrays : List WrittenArray) (name : List ℕ) → AreNamed arrays → IsThere arrays name → is_name name ≡ true
 there_named [] name named there = absurd there
@@ -185,10 +181,7 @@ others_again name (a ∷ more) other =
 
 apart_test : (a b s : ℕ) → (b + s ≤ a) ⊎ (a + s ≤ b) → (ltb a (b + s) && ltb b (a + s)) ≡ false
 apart_test a b s (inl le) = rw (le-ltb a (b + s) le) refl
-apart_test a b s (inr le) = second_false (ltb a (b + s)) (ltb b (a + s)) (le-ltb b (a + s) le) where
-  second_false : (x y : Bool) → y ≡ false → (x && y) ≡ false
-  second_false true y e = e
-  second_false false y e = refl
+apart_test a b s (inr le) = and_right (ltb a (b + s)) (ltb b (a + s)) (le-ltb b (a + s) le)
 
 apart_again : (t : ElementType) (n addr : ℕ) (front : List WrittenArray) → AllByRecursion (IsApart t n addr) front
     → list_any (λ a. share t n a.addr addr) front ≡ false

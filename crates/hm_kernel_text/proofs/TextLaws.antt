@@ -17,7 +17,8 @@ use Rattle.hm_kernel_text.proofs.FileSteps.{length-arrays, length-sets}
 use Rattle.hm_kernel_text.proofs.FoundFile.{kernel_found}
 use Rattle.hm_kernel_text.proofs.AgainFile.{kernel_again}
 
-picked : (P : WrittenArray → Type 0) (front : List WrittenArray) (a : WrittenArray) (rest : List WrittenArray)
+-- what all of a list have, has one in its middle
+pub picked : (P : WrittenArray → Type 0) (front : List WrittenArray) (a : WrittenArray) (rest : List WrittenArray)
     → AllByRecursion P (front ++ a ∷ rest) → P a
 picked P [] a rest all = all.0
 picked P (b ∷ front) a rest all = picked P front a rest all.1

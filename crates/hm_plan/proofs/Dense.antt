@@ -1,5 +1,6 @@
 -- A plan is as dense as it may be.
-use Rattle.std.proofs.Common.{◌≡◌, ℕ, ◌+◌, ◌≤◌, ◌&&◌, arith, Bool, true, false, nat_lt, List, [], ◌∷◌, get_or, length, Option, Some, None, ap, subst}
+use Rattle.std.proofs.Common.{◌≡◌, ℕ, ◌+◌, ◌≤◌, ◌&&◌, arith, Bool, true, nat_lt, List, [], ◌∷◌, get_or, length, Option, Some, None, ap, subst}
+use Rattle.std.proofs.lemmas.Bool.{and_from}
 use Rattle.std.proofs.lemmas.Bool.Decides.{nat_tests}
 use Rattle.hm_isa.specs.declared.Vector.{Vector}
 use Rattle.hm_order.proofs.Results.{decide}
@@ -17,11 +18,7 @@ one_of_two (Some v) h = let size : 2 ≡ 1 = ap (λ (l : List ℕ). length l) h 
 one_alone : (row : Option Vector) (two : Bool) → two ≡ true → letters_of (greedy_with row two) ≡ older_letter ∷ [] → ⊥
 one_alone row two e h = one_of_two row (subst (λ (b : Bool). letters_of (greedy_with row b) ≡ older_letter ∷ []) e h)
 
-both_hold : (a b : Bool) → a ≡ true → b ≡ true → (a && b) ≡ true
-both_hold true b e f = f
-both_hold false b e f = absurd cc
-
 pub last_alone : (M : Program) (n : ℕ) (c : Config State) → is_ready M c ≡ true → letters_of (greedy_at M n c) ≡ older_letter ∷ [] → n ≤ c.n + 1
 last_alone M n c ready one = decide (nat_lt (c.n + 1) n)
-    (λ less. absurd (one_alone (M.code c.state.pc) (is_ready M c && nat_lt (c.n + 1) n) (both_hold (is_ready M c) (nat_lt (c.n + 1) n) ready less) one))
+    (λ less. absurd (one_alone (M.code c.state.pc) (is_ready M c && nat_lt (c.n + 1) n) (and_from (is_ready M c) (nat_lt (c.n + 1) n) ready less) one))
     (λ last. grind (arith, nat_tests, last))
