@@ -2,6 +2,7 @@
 use Rattle.std.proofs.Common.{◌≡◌, ◌≤◌, ◌<◌, ◌%◌, ℕ, ◌+◌, ◌/◌, Bool, true, false, List, length, nat_lt, Option, Some, None, Result, Ok, Err, nat_le, refl, sym}
 use Rattle.std.proofs.Common.{ap, subst, ◌∙◌, arith}
 use Rattle.std.specs.Prelude.{if◌then◌else◌}
+use Rattle.std.proofs.lemmas.Bool.{le-leb, lt-leb}
 use Rattle.std.proofs.lemmas.Bool.Decides.{nat_tests}
 use Rattle.hm_base.specs.Image.{Segment}
 use Rattle.hm_codes.specs.Listing.{Listing}
@@ -189,12 +190,6 @@ next_comes : (listings : List Segment → Listing) (image : List Segment) (s : S
     → UnlessRefused (reset_refusal image) (IsCompared listings image s next j) o
 next_comes listings image s next j o odd same is = unless_odd image (IsCompared listings image s next j) o odd (Ok tt, same, is)
 
-past_test : (tick last : ℕ) → last < tick → nat_le tick last ≡ false
-past_test tick last h = grind (arith, nat_tests)
-
-begun_test : (tick last : ℕ) → tick ≤ last → nat_le tick last ≡ true
-begun_test tick last h = grind (arith, nat_tests)
-
 -- the outcome at a tick, by whether the run begins it
 abbrev at_tick : (List Segment → Listing) → List Segment → Sched → ℕ → Bool → Outcome
 at_tick listings image s tick begun = if begun then finishes true None (Some (report_at (listings image) image s tick))
@@ -205,7 +200,7 @@ pub tick_past : (listings : List Segment → Listing) (image : List Segment) (s 
     → (run_out (listings image) image s).ticks ≡ last → last < tick
     → UnlessRefused (reset_refusal image) (IsCompared listings image s (tick_outcome listings image s tick) j) (refuses (Past last))
 tick_past listings image s tick last j odd same is past =
-    let test : nat_le tick (run_out (listings image) image s).ticks ≡ false = ap (nat_le tick) is ∙ past_test tick last past in
+    let test : nat_le tick (run_out (listings image) image s).ticks ≡ false = ap (nat_le tick) is ∙ lt-leb tick last past in
     next_comes listings image s (tick_outcome listings image s tick) j (refuses (Past last)) odd same
     (ap (λ (k : ℕ). refuses (Past k)) (sym is) ∙ sym (ap (at_tick listings image s tick) test))
 
@@ -214,7 +209,7 @@ pub tick_shown : (listings : List Segment → Listing) (image : List Segment) (s
     → (run_out (listings image) image s).ticks ≡ last → tick ≤ last → text ≡ report_at (listings image) image s tick
     → UnlessRefused (reset_refusal image) (IsCompared listings image s (tick_outcome listings image s tick) j) (finishes true None (Some text))
 tick_shown listings image s tick last j text odd same is begun report =
-    let test : nat_le tick (run_out (listings image) image s).ticks ≡ true = ap (nat_le tick) is ∙ begun_test tick last begun in
+    let test : nat_le tick (run_out (listings image) image s).ticks ≡ true = ap (nat_le tick) is ∙ le-leb tick last begun in
     next_comes listings image s (tick_outcome listings image s tick) j (finishes true None (Some text)) odd same
     (ap (λ (t : List ℕ). finishes true None (Some t)) report ∙ sym (ap (at_tick listings image s tick) test))
 

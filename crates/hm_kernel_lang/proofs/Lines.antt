@@ -1,7 +1,7 @@
 -- The loop of a line, by induction over its turns; and all lines.
-use Rattle.std.proofs.Common.{◌≡◌, ℕ, zero, suc, ◌+◌, ◌-◌, ◌*◌, ◌/◌, ◌%◌, ◌^◌, ◌<◌, ◌≤◌, Bool, true, false, cond, nat_eq, nat_le, min, List, [], ◌∷◌, ◌++◌}
+use Rattle.std.proofs.Common.{◌≡◌, ℕ, zero, suc, ◌+◌, ◌-◌, ◌*◌, ◌/◌, ◌%◌, ◌^◌, ◌<◌, ◌≤◌, Bool, true, false, cond, nat_eq, min, List, [], ◌∷◌, ◌++◌}
 use Rattle.std.proofs.Common.{length, map, refl, sym, ap, ◌∙◌, subst, ⊎_elim, arith, length-append, Result}
-use Rattle.std.proofs.lemmas.Bool.{cases_lt}
+use Rattle.std.proofs.lemmas.Bool.{cases_lt, le-leb, lt-leb}
 use Rattle.std.proofs.lemmas.Bool.Decides.{nat_tests}
 use Rattle.std.proofs.Math.Nat.{suc-mul}
 use Rattle.hm_kernel_lang.specs.declared.text.ElementType.{ElementType}
@@ -16,12 +16,6 @@ use Rattle.hm_kernel_lang.proofs.Expressions.{Cans, IsReady, addressed, cans_app
 use Rattle.hm_kernel_lang.proofs.Replacing.{replaced_on, replaced_same, value_outside}
 use Rattle.hm_kernel_lang.proofs.Values.{no_bytes}
 use Rattle.hm_kernel_lang.proofs.Straight.{expr_length, items_halves, joined, pc_execs, plain_halves, so_many, stands_back, stands_front, straight}
-
-le_true : (a b : ℕ) → a ≤ b → nat_le a b ≡ true
-le_true a b h = grind (arith, nat_tests)
-
-le_false : (a b : ℕ) → b < a → nat_le a b ≡ false
-le_false a b h = grind (arith, nat_tests)
 
 eq_true : (a : ℕ) → a ≡ 0 → nat_eq a 0 ≡ true
 eq_true a h = grind (arith, nat_tests)
@@ -142,7 +136,7 @@ module _ (t : ElementType) (at : ℕ → ℕ) (n : ℕ) (l : Line) (fine : IsLin
           let d = turn_done j v turn in
           let leaves : again t h w ≡ record w { pc = w.pc + 4; size = 4 } =
           ap (λ (u : Bool). cond u (record w { pc = w.pc + 4; size = 4 }) (record w { pc = w.pc + 4 - 2 * h; left = w.left - lanes t }))
-          (le_true w.left (lanes t) (let same = d.left in omega arith)) in
+          (le-leb w.left (lanes t) (let same = d.left in omega arith)) in
           let one : suc k ≡ 1 = is ∙ last_turn t v.left turn.some le in
           let many : long ≡ suc k * long = sym (ap (λ (x : ℕ). x * long) one ∙ (let q : 1 * long ≡ long = omega arith in q)) in
           let all : j + min v.left (lanes t) ≡ n = let whole = turn.left in omega arith in
@@ -161,7 +155,7 @@ module _ (t : ElementType) (at : ℕ → ℕ) (n : ℕ) (l : Line) (fine : IsLin
           let d = turn_done j v turn in
           let x = record w { pc = w.pc + 4 - 2 * h; left = w.left - lanes t } in
           let leaves : again t h w ≡ x =
-          ap (λ (u : Bool). cond u (record w { pc = w.pc + 4; size = 4 }) x) (le_false w.left (lanes t) (let same = d.left in omega arith)) in
+          ap (λ (u : Bool). cond u (record w { pc = w.pc + 4; size = 4 }) x) (lt-leb w.left (lanes t) (let same = d.left in omega arith)) in
           let r = subst (λ (y : View). Reaches next Shows long s y) leaves (around j v s pc turn shows) in
           let whole = turn.left in
           let same = d.left in

@@ -2,6 +2,7 @@
 use Rattle.std.proofs.Common.{◌≡◌, ℕ, zero, suc, ◌+◌, ◌*◌, ◌%◌, ◌^◌, ◌<◌, ◌≤◌, Bool, true, false, cond, not, ◌&&◌, ◌||◌, ltb, nat_eq, nat_le}
 use Rattle.std.proofs.Common.{min, get_or, length, List, [], ◌++◌, refl, sym, ap, ◌∙◌, subst, arith, ltb-true, eq-eqb, append-nil, All, Option, Some, None}
 use Rattle.std.specs.Prelude.{Result, Ok, if◌then◌else◌}
+use Rattle.std.proofs.lemmas.Bool.{eq-eqb, le-leb, lt-leb}
 use Rattle.std.proofs.lemmas.Bool.Decides.{nat_tests}
 use Rattle.std.proofs.lemmas.List.Elements.{All-cons, All-nil}
 use Rattle.std.specs.Option.{option_or}
@@ -46,25 +47,16 @@ use Rattle.hm_order.proofs.Results.{decide}
 use Rattle.hm_kernel_rows.proofs.Vectors.{after_write, bytes_unlanes, comes_to, in_loop, no_first, no_second, over_too, size_is}
 
 -- NO FAULT where an access stands in SRAM and is aligned
-pub le_no : (a b : ℕ) → b < a → nat_le a b ≡ false
-le_no a b h = grind (arith, nat_tests)
-
-pub le_yes : (a b : ℕ) → a ≤ b → nat_le a b ≡ true
-le_yes a b h = grind (arith, nat_tests)
-
-eq_yes : (w : ℕ) → w ≡ 0 → nat_eq w 0 ≡ true
-eq_yes w h = grind (arith, nat_tests)
-
 no_device : (a : ℕ) → a < 0x20040000 → device_word a ≡ None
 no_device a h = grind (arith, nat_tests, h)
 
 no_fault : (store : Bool) (len a : ℕ) → a % len ≡ 0 → 0x20000000 ≤ a → 0 < len → a + len ≤ 0x20040000 → fault_kind true Vector store len a ≡ None
 no_fault store len a aligned low some high =
-    let al = eq_yes (a % len) aligned in
-    let dev = le_no 0xe000e000 a (omega arith) in
-    let fl = le_no (a + len) 0x100000 (omega arith) in
-    let lo = le_yes 0x20000000 a low in
-    let hi = le_yes (a + len) (0x20000000 + 0x40000) high in
+    let al = eq-eqb (a % len) 0 aligned in
+    let dev = lt-leb 0xe000e000 a (omega arith) in
+    let fl = lt-leb (a + len) 0x100000 (omega arith) in
+    let lo = le-leb 0x20000000 a low in
+    let hi = le-leb (a + len) (0x20000000 + 0x40000) high in
     let none = no_device a (omega arith) in
     (λ j. if not (al j) then Some kind.Unaligned
     else (if dev j && nat_le a 0xe000efff then Some kind.DeviceVector
