@@ -59,7 +59,8 @@ advance_placed true false p q u v i j = (i, tt)
 advance_placed false true p q u v i j = (j, tt)
 advance_placed false false p q u v i j = tt
 
-mask_placed : (b : ℕ) → IsPlace (mask_place b)
+-- the mask of a beat is a place
+pub mask_placed : (b : ℕ) → IsPlace (mask_place b)
 mask_placed b = go (ltb b 2)
   where
     go : (x : Bool) → IsPlace (cond x Mask01 Mask23)

@@ -26,7 +26,7 @@ use Rattle.hm_beat.specs.Touches.{span_bytes}
 use Rattle.hm_beat.specs.Laws.{NoTaint, WritesTaint}
 use Rattle.hm_beat.proofs.Trees.{one_of}
 use Rattle.hm_beat.proofs.Predicated.{advance_at, holds-append, kept_tested, reach_looked, tested_places, tests_looked, written-append, written_always}
-use Rattle.hm_beat.proofs.Whole.{advance_taints, no_byte}
+use Rattle.hm_beat.proofs.Whole.{advance_lives, advance_taints, no_byte}
 use Rattle.hm_kinds.specs.Row.{numbers}
 use Rattle.hm_moves.specs.declared.elements.Element.{Element}
 use Rattle.hm_moves.specs.Moves.{Moves, all_bytes_from, asks, back_at, begun, bytes_from, bytes_of_elements, checks_of, element_checks, elements_at}
@@ -344,12 +344,8 @@ leaf_taints i x b s =
     go true = stores_taint (marks x.actor) i.memory (elements_at i b s)
     go false = fill_taints (marks x.actor) i 0 (elements_at i b s) (i.words b)
 
-always_lives : (ws : List Write) → WritesLive cells (map always ws)
-always_lives [] = tt
-always_lives (w ∷ ws) = (λ vs. refl, always_lives ws)
-
 pub leaf_lives : (i : Moves) (x : Around) (b : ℕ) (s : State) → x.actor ≡ Thread → WritesLive cells (leaf_at i x b s).writes
-leaf_lives i x b s thread = lives-append (moved_by i x b (elements_at i b s)) _ (go i.store) (always_lives (i.back b (sources_at i b s) ++ advance_at b s))
+leaf_lives i x b s thread = lives-append (moved_by i x b (elements_at i b s)) _ (go i.store) (advance_lives (i.back b (sources_at i b s) ++ advance_at b s))
   where
     go : (y : Bool) → WritesLive cells (cond y (store_all (marks x.actor) i.memory (elements_at i b s)) (fill i 0 (elements_at i b s) (i.words b)))
     go true = stores_live (marks x.actor) i.memory (elements_at i b s) (ap marks thread)
