@@ -14,7 +14,7 @@ use Rattle.hm_commands.specs.declared.status.Status.TheVariants.{Done, Ended, Ho
 use Rattle.hm_commands.specs.declared.work.Refusal.{Refusal}
 use Rattle.hm_commands.specs.declared.work.Refusal.TheVariants.{FileTooLarge}
 use Rattle.hm_commands.specs.declared.work.Stop.{Stop}
-use Rattle.hm_host.specs.Host.{AddsPrefix, Becomes, Call, FileMap, HostState, KeepsOthers, Rose, Stays, Turns, print, write}
+use Rattle.hm_host.specs.Host.{AddsPrefix, Becomes, Call, Changes, FileMap, HostState, KeepsOthers, Rose, Stays, print, write}
 use Rattle.hm_host.specs.declared.host.HostErr.{HostErr}
 use Rattle.hm_host.specs.declared.host.HostErr.TheVariants.{Failed, OutOfMemory, TooLarge}
 use Rattle.hm_sched.specs.ReadFile.{file_in}
@@ -121,7 +121,7 @@ pub record IsCutAt (files : List File) (old new : Option FileMap) : Type 0 where
   pub last : File
   pub left : List File
   pub parts_are : files ≡ done ++ last ∷ left
-  pub others : Turns (λ F G. KeepsOthers last.0 (with_files done F) G) old new
+  pub others : Changes (λ F G. KeepsOthers last.0 (with_files done F) G) old new
 
 -- the first of the files stand whole, none or some or all of them, and all others are as they were
 pub record AreSome (files : List File) (old new : Option FileMap) : Type 0 where
@@ -152,7 +152,7 @@ pub record IsCutAtFile (e : Effect) (old new : HostState) : Type 0 where
 -- the host failed at the text: all files stand whole, and a prefix of the text was printed
 pub record IsCutInText (e : Effect) (old new : HostState) : Type 0 where
   pub files : Becomes (with_files e.files) old.files new.files
-  pub printed : Turns (AddsPrefix e.text) old.printed new.printed
+  pub printed : Changes (AddsPrefix e.text) old.printed new.printed
 
 -- memory ran out: some of the files stand whole, and nothing was printed
 pub record IsOutOfMemory (e : Effect) (old new : HostState) : Type 0 where

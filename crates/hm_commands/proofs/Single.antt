@@ -1,6 +1,6 @@
 -- One effect carries all that is told of an effect.
 use Rattle.std.proofs.Common.{◌≡◌, List, ◌∷◌, ◌++◌, Option, Some, None, refl, ap, subst, ◌∙◌, inl, inr, append_assoc, ℕ}
-use Rattle.hm_host.specs.Host.{Call, FileMap, HostState, Made, Stays, Turns}
+use Rattle.hm_host.specs.Host.{Call, Changes, FileMap, HostState, Made, Stays}
 use Rattle.hm_commands.specs.declared.status.Status.{Status}
 use Rattle.hm_commands.specs.declared.status.Status.TheVariants.{HostFault, NoMemory}
 use Rattle.hm_commands.specs.Calls.{MadeSome, MadeToFault, MakesCalls, Way, to_end, to_fault, to_memory, read_calls, way_of}
@@ -25,15 +25,15 @@ some_more calls rest old new h = record {
   made_are = h.made_are;
 }
 
-turns_more : {A : Type 0} (R Q : A → A → Type 0) (old new : Option A) → ((x y : A) → R x y → Q x y) → Turns R old new → Turns Q old new
-turns_more R Q old new f h = λ x is. let k = h x is in (k.0, k.1, f x k.0 k.2)
+changes_more : {A : Type 0} (R Q : A → A → Type 0) (old new : Option A) → ((x y : A) → R x y → Q x y) → Changes R old new → Changes Q old new
+changes_more R Q old new f h = λ x is. let k = h x is in (k.0, k.1, f x k.0 k.2)
 
 cut_more : (reads rest : List Call) (old new : Option (List Made)) (way : Way) → CutsReads reads old new way → MakesCalls (reads ++ rest) old new way
 cut_more reads rest old new to_end h = absurd h
-cut_more reads rest old new to_fault h = turns_more (MadeToFault reads) (MadeToFault (reads ++ rest)) old new (fault_more reads rest) h
+cut_more reads rest old new to_fault h = changes_more (MadeToFault reads) (MadeToFault (reads ++ rest)) old new (fault_more reads rest) h
 cut_more reads rest old new to_memory h = elim h [
   | inl untold ↦ inl untold
-  | inr some ↦ inr (turns_more (MadeSome reads) (MadeSome (reads ++ rest)) old new (some_more reads rest) some)
+  | inr some ↦ inr (changes_more (MadeSome reads) (MadeSome (reads ++ rest)) old new (some_more reads rest) some)
 ]
 
 -- WHERE NOTHING WAS TOUCHED any effect may have been cut

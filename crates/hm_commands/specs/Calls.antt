@@ -1,7 +1,7 @@
 -- The calls on the host: those that are to be made, and how they went.
 use Rattle.std.specs.Prelude.{◌≡◌, ◌⊎◌, ℕ, List, [], ◌∷◌, ◌++◌, length, map, Option, Some, None, Result, Ok, Err, nat_lt, if◌then◌else◌}
 use Rattle.std.specs.FinMap.{get}
-use Rattle.hm_host.specs.Host.{FileMap, Call, read, write, print, Made, answered, failed, Becomes, Turns, longest}
+use Rattle.hm_host.specs.Host.{FileMap, Call, read, write, print, Made, answered, failed, Becomes, Changes, longest}
 use Rattle.hm_host.specs.declared.host.HostErr.{HostErr}
 use Rattle.hm_host.specs.declared.host.HostErr.TheVariants.{Failed, TooLarge, OutOfMemory}
 use Rattle.hm_commands.specs.declared.status.Status.{Status}
@@ -71,8 +71,8 @@ answer_way (Err OutOfMemory) = to_memory
 -- Of the calls that were to be made these were: where the calls are told, by how they went. They are told no more only where memory ran out.
 abbrev pub MakesCalls : List Call → Option (List Made) → Option (List Made) → Way → Type 0
 MakesCalls calls old new to_end = Becomes (with_calls calls) old new
-MakesCalls calls old new to_fault = Turns (MadeToFault calls) old new
-MakesCalls calls old new to_memory = (new ≡ None) ⊎ Turns (MadeSome calls) old new
+MakesCalls calls old new to_fault = Changes (MadeToFault calls) old new
+MakesCalls calls old new to_memory = (new ≡ None) ⊎ Changes (MadeSome calls) old new
 
 -- all these calls were made, where they are told still
 abbrev pub MakesAll : List Call → Option (List Made) → Option (List Made) → Type 0

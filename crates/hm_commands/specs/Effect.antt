@@ -3,7 +3,7 @@ use Rattle.std.specs.Prelude.{◌≡◌, ◌≢◌, ◌⊎◌, ℕ, List, [], �
 use Rattle.std.specs.FinMap.{get, insert}
 use Rattle.hm_base.specs.Image.{Segment}
 use Rattle.hm_codes.specs.Listing.{Listing}
-use Rattle.hm_host.specs.Host.{FileMap, HostState, Call, Made, Stays, Becomes, Turns, KeepsOthers, AddsPrefix, Rose, longest}
+use Rattle.hm_host.specs.Host.{FileMap, HostState, Call, Made, Stays, Becomes, Changes, KeepsOthers, AddsPrefix, Rose, longest}
 use Rattle.hm_host.specs.declared.host.HostErr.{HostErr}
 use Rattle.hm_host.specs.declared.host.HostErr.TheVariants.{Failed, TooLarge, OutOfMemory}
 use Rattle.hm_commands.specs.declared.status.Status.{Status}
@@ -132,13 +132,13 @@ pub record IsDone (effect : Effect) (old new : HostState) (status : Status) : Ty
 
 -- the host failed before anything was printed: at most the file to write has changed
 pub record IsCutBeforeText (effect : Effect) (old new : HostState) : Type 0 where
-  pub files : Turns (ButForFile effect.file) old.files new.files
+  pub files : Changes (ButForFile effect.file) old.files new.files
   pub printed : Stays old.printed new.printed
 
 -- the host failed at the text: the file stands whole, and a prefix of the text was printed
 pub record IsCutInText (effect : Effect) (old new : HostState) : Type 0 where
   pub files : Becomes (with_file effect.file) old.files new.files
-  pub printed : Turns (PartOfText effect.text) old.printed new.printed
+  pub printed : Changes (PartOfText effect.text) old.printed new.printed
 
 -- memory ran out: nothing was printed, and the file was not touched or stands whole
 pub record IsOutOfMemory (effect : Effect) (old new : HostState) : Type 0 where
@@ -232,13 +232,13 @@ ReadsAll files names items (Err OutOfMemory) = Unit {0}
 -- writing the file that there may be
 abbrev pub WritesFile : {T : Type 0} → Option (List ℕ × List ℕ) → HostState → HostState → Result T HostErr → Type 0
 WritesFile file old new (Ok _) = Becomes (with_file file) old.files new.files
-WritesFile file old new (Err Failed) = Turns (ButForFile file) old.files new.files
+WritesFile file old new (Err Failed) = Changes (ButForFile file) old.files new.files
 WritesFile file old new (Err TooLarge) = ⊥
 WritesFile file old new (Err OutOfMemory) = Stays old.files new.files
 
 -- printing the text that there may be
 abbrev pub PrintsText : {T : Type 0} → Option (List ℕ) → HostState → HostState → Result T HostErr → Type 0
 PrintsText text old new (Ok _) = Becomes (with_text text) old.printed new.printed
-PrintsText text old new (Err Failed) = Turns (PartOfText text) old.printed new.printed
+PrintsText text old new (Err Failed) = Changes (PartOfText text) old.printed new.printed
 PrintsText text old new (Err TooLarge) = ⊥
 PrintsText text old new (Err OutOfMemory) = Stays old.printed new.printed

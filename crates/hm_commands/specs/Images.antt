@@ -4,12 +4,13 @@ use Rattle.hm_base.specs.Image.{Segment}
 use Rattle.hm_base.specs.declared.errors.ImageErr.{ImageErr}
 use Rattle.hm_elf.specs.Elf.{IsImageFile}
 use Rattle.hm_elf.specs.ReadImage.{image_in}
+use Rattle.hm_ihex.specs.Records.{colon}
 use Rattle.hm_ihex.specs.Files.{hex_in}
 use Rattle.hm_ihex.specs.HexFile.{IsHexFile}
 
 -- a file that begins with a colon is of Intel HEX
 abbrev pub begins_as_hex : List ℕ → Bool
-begins_as_hex bytes = nat_eq (get_or bytes 0 0) 58
+begins_as_hex bytes = nat_eq (get_or bytes 0 0) colon
 
 -- the image of a file, or its first refusal
 abbrev pub image_of : List ℕ → Result (List Segment) ImageErr

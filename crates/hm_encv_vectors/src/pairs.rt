@@ -280,7 +280,7 @@ pub fn encode_v5(r: &V5) -> u32
     base_of_doubling(r.name) + (r.z.get() << 20) + place_registers(r.n, r.d, r.m)
 }
 
-/// Whether results of two words' width overwrite no word that is still to be read.
+/// Whether results of two words overwrite no word that is still to be read.
 fn may_widen(z: ElementSize, d: QRegister, n: QRegister, m: QRegister) -> bool
     ensures value { result ≡ is_widened z.value d.value n.value m.value }
 {

@@ -123,7 +123,7 @@ pub reversed_is : (r : V14) (s : State) → row_by_words (reversed_row r) s ≡ 
 reversed_is r s = words_whole false r.d.value (λ b. word_place r.m.value (reversed_at r.name b) ∷ []) (λ b slice. reversed_new r) s
     ∙ ap (λ u. merged_whole r.d.value u s) (sym (reversed_words r.name r.z.value r.d.value r.m.value r.z.in_range r.rule (λ b. at (word_place r.m.value b) s)))
 
--- LANES MADE LONGER
+-- LANES WIDENED
 abbrev pub every : (ℕ → ℕ) → Bool → Size → Size → List ℕ → List ℕ
 every f odd z wide v = unlanes wide (map f (every_second odd (lanes z v)))
 

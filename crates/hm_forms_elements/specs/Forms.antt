@@ -60,29 +60,32 @@ words_row always_slice d sources f mark = record {
 
 -- LANES OF TWO OPERANDS AND OF THE OLD WORD
 -- V1 to V5, V7, V10, V11, V13 and V18: the new word of a row of lanes: its function, lane by lane, of the old word and of two operands
--- (DDI0553, the sections named at these rows' types)
+-- (DDI0553, as "VADD (vector)", "VAND", "VSHL", "VSHR" and "VDUP")
 abbrev pub lanes_new : Lanes → List ℕ → ℕ
 lanes_new l (old ∷ x ∷ ys) = word_of (lanewise3 l.z (lane_of l.f l.unsigned l.z) (bytes_of old) (bytes_of x) (bytes_of (operand_of l.z l.by ys)))
 lanes_new l _ = 0
 
--- V3 to V5, V10, V11 and V13: whether an active lane of a word saturates (DDI0553, the sections named at these rows' types)
+-- V3 to V5, V10, V11 and V13: whether an active lane of a word saturates (DDI0553, as "VQADD", "VQSHL" and "VQABS")
 abbrev pub lanes_mark : Lanes → List Bool → List ℕ → Bool
 lanes_mark l active (old ∷ x ∷ ys) =
     any_both active (lane_tests3 l.z (lane_saturates l.f l.unsigned l.z) (bytes_of old) (bytes_of x) (bytes_of (operand_of l.z l.by ys)))
 lanes_mark l active _ = false
 
--- V1 to V5, V7, V10, V11, V13 and V18, as VADD, VAND, VSHL and VDUP: a function of lanes (DDI0553, the sections named at these rows' types)
+-- V1 to V5, V7, V10, V11, V13 and V18, as VADD, VAND, VSHL and VDUP: a function of lanes
+-- (DDI0553, as "VADD (vector)", "VAND", "VSHL", "VSHR" and "VDUP")
 abbrev pub lanes_row : Lanes → Row
 lanes_row l = words_row false l.d.value (λ b. word_place l.n.value b ∷ operand_places l.by b) (λ b slice. lanes_new l)
     (cond (saturates l.f) (Some (λ b. lanes_mark l)) None)
 
 -- A CONSTANT
--- V15: the new word b of VMOV, VMVN, VORR or VBIC, by the old word (DDI0553, "VMOV (immediate)", "VMVN (immediate)", "VORR (immediate)" and "VBIC (immediate)")
+-- V15: the new word b of VMOV, VMVN, VORR or VBIC, by the old word
+-- (DDI0553, "VMOV (immediate) (vector)", "VMVN (immediate)", "VORR (immediate)" and "VBIC (immediate)")
 abbrev pub constant_new : V15 → ℕ → List ℕ → ℕ
 constant_new r b (old ∷ vs) = constant_op r old (imm_word r b)
 constant_new r b [] = 0
 
--- V15: VMOV, VMVN, VORR and VBIC with a constant, beat by beat (DDI0553, "VMOV (immediate)", "VMVN (immediate)", "VORR (immediate)" and "VBIC (immediate)")
+-- V15: VMOV, VMVN, VORR and VBIC with a constant, beat by beat
+-- (DDI0553, "VMOV (immediate) (vector)", "VMVN (immediate)", "VORR (immediate)" and "VBIC (immediate)")
 abbrev pub constant_row : V15 → Row
 constant_row r = words_row false r.d.value (λ b. []) (λ b slice. constant_new r b) None
 
@@ -230,13 +233,13 @@ abbrev pub round_places : Option (Below 6) → List Place
 round_places None = []
 round_places (Some r) = R (2 * r.value + 1) ∷ []
 
--- V19: what stands in it (DDI0553, "VIDUP, VIWDUP" and "VDDUP, VDWDUP")
+-- V19: the number in that register, where it was read (DDI0553, "VIDUP, VIWDUP" and "VDDUP, VDWDUP")
 abbrev pub round_of : List ℕ → Option ℕ
 round_of [] = None
 round_of (m ∷ vs) = Some m
 
--- V19: the next offset: a step on for VIDUP and VIWDUP, back for VDDUP and VDWDUP; where offsets go round, 0 takes the place of the number
--- at which they do (DDI0553, "VIDUP, VIWDUP" and "VDDUP, VDWDUP")
+-- V19: the next offset: a step on for VIDUP and VIWDUP, back for VDDUP and VDWDUP; where offsets go round, VIWDUP takes 0 in place of the number
+-- at which they do, and VDWDUP steps back from that number where it stands at 0 (DDI0553, "VIDUP, VIWDUP" and "VDDUP, VDWDUP")
 abbrev pub stepped : OffsetsName → ℕ → Option ℕ → ℕ → ℕ
 stepped offsets.Up step None o = (o + step) % 2 ^ 32
 stepped offsets.Up step (Some m) o = let x = (o + step) % 2 ^ 32 in cond (eqb x m) 0 x
@@ -403,12 +406,12 @@ reversed_new r _ = 0
 abbrev pub reversed_row : V14 → Row
 reversed_row r = words_row false r.d.value (λ b. word_place r.m.value (reversed_at r.name b) ∷ []) (λ b slice. reversed_new r) None
 
--- LANES MADE LONGER
+-- LANES WIDENED
 -- V12: a lane extended and shifted, which is times a factor (DDI0553, "VSHLL" and "VMOVL")
 abbrev pub widened : Widening → Size → ℕ → ℕ
 widened r z x = extended_lane r.unsigned z x * r.factor % 2 ^ 64
 
--- V12: the even or the odd lanes of a word made longer, in lanes of twice their size (DDI0553, "VSHLL" and "VMOVL")
+-- V12: the even or the odd lanes of a word widened, in lanes of twice their size (DDI0553, "VSHLL" and "VMOVL")
 abbrev pub long_lanes : Widening → Size → Size → ℕ → ℕ
 long_lanes r z wide x = word_of (unlanes wide (map (widened r z) (every_second r.odd (lanes z (bytes_of x)))))
 

@@ -110,7 +110,7 @@ fn constant_op(row: &V15, old: u32, constant: u32) -> u32
     }
 }
 
-/// What beat `b` of `vmov`, `vmvn`, `vorr` or `vbic` with a constant touches: DDI0553, "VMOV (immediate)", "VMVN (immediate)",
+/// What beat `b` of `vmov`, `vmvn`, `vorr` or `vbic` with a constant touches: DDI0553, "VMOV (immediate) (vector)", "VMVN (immediate)",
 /// "VORR (immediate)" and "VBIC (immediate)". `b` is below 4.
 pub fn touch_constant(row: &V15, b: u8, r: &Regs) -> Touch
     requires { b < 4 }
@@ -131,7 +131,7 @@ pub fn touch_constant(row: &V15, b: u8, r: &Regs) -> Touch
     touch_row(sources, Some(word), None, shape, b, r)
 }
 
-/// Does beat `b` of `vmov`, `vmvn`, `vorr` or `vbic` with a constant: DDI0553, "VMOV (immediate)", "VMVN (immediate)",
+/// Does beat `b` of `vmov`, `vmvn`, `vorr` or `vbic` with a constant: DDI0553, "VMOV (immediate) (vector)", "VMVN (immediate)",
 /// "VORR (immediate)" and "VBIC (immediate)". `b` is below 4.
 pub fn beat_constant(row: &V15, b: u8, r: &mut Regs)
     requires { b < 4 }

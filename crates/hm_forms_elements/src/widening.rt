@@ -19,7 +19,7 @@ use hm_lane::{Size, bytes};
 use hm_lane_fns::{extended_lane, merge_active, word_place};
 use hm_regs::Regs;
 
-/// Elements made longer and shifted.
+/// Elements widened and shifted.
 #[derive(Clone, Copy)]
 pub struct Widening {
     /// Whether elements of 16 bits become 32, or else 8 bits 16.
@@ -35,7 +35,7 @@ pub struct Widening {
     pub m: QRegister,
 }
 
-/// A lane made longer and shifted.
+/// A lane widened and shifted.
 fn widened(row: &Widening, z: Size, x: u32) -> u64
     requires { x < modulus z }
     ensures { result ≡ widened row.now z x }

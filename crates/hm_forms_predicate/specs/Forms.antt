@@ -13,7 +13,7 @@ use Rattle.hm_lane_fns.specs.Words.{both, filled, nibble, operand_of, operand_pl
 use Rattle.hm_forms_predicate.specs.declared.compare.Comparison.{Comparison}
 
 -- THE PREDICATE ITSELF
--- V20: whether condition c holds of two lanes: eq, ne; without a sign cs, hi; with a sign ge, lt, gt, le (DDI0553, "VCMP" and "VPT")
+-- V20: whether condition c holds of two lanes: eq, ne; without a sign cs, hi; with a sign ge, lt, gt, le (DDI0553, "VCMP (vector)" and "VPT")
 abbrev pub compares : ℕ → Size → ℕ → ℕ → Bool
 compares c z x y =
     if nat_eq c 0 then eqb x y
@@ -25,7 +25,7 @@ compares c z x y =
     else (if nat_eq c 6 then int_lt (lane_value false z y) (lane_value false z x)
     else not (int_lt (lane_value false z y) (lane_value false z x))))))))
 
--- V20: the slice of P0 that VCMP and VPT make: the active bytes of elements that compare so (DDI0553, "VCMP" and "VPT")
+-- V20: the slice of P0 that VCMP and VPT make: the active bytes of elements that compare so (DDI0553, "VCMP (vector)" and "VPT")
 abbrev pub compare_slice : Comparison → List Bool → List ℕ → ℕ
 compare_slice r active (x ∷ ys) =
     nibble (both (filled r.z (paired_tests (compares r.c.value r.z) (lanes r.z (bytes_of x)) (lanes r.z (bytes_of (operand_of r.z r.by ys))))) active)
@@ -43,11 +43,11 @@ slice_row always_slice reads f mask = record {
   mark = None;
 }
 
--- V20: the mask that VPT begins a block with; 0 stands for VCMP, which begins none (DDI0553, "VCMP" and "VPT")
+-- V20: the mask that VPT begins a block with; 0 stands for VCMP, which begins none (DDI0553, "VCMP (vector)" and "VPT")
 abbrev pub block_mask : ℕ → Option ℕ
 block_mask k = cond (eqb k 0) None (Some k)
 
--- V20: VCMP and VPT, beat by beat (DDI0553, "VCMP" and "VPT")
+-- V20: VCMP and VPT, beat by beat (DDI0553, "VCMP (vector)" and "VPT")
 abbrev pub compare_row : Comparison → Row
 compare_row r = slice_row false (λ b. word_place r.n.value b ∷ operand_places r.by b) (λ b slice. compare_slice r) (block_mask r.k.value)
 

@@ -34,7 +34,7 @@ half_writes b l new s =
 abbrev pub predicate_whole : List Bool → Option ℕ → State → State
 predicate_whole l new s = retired (put_all cells (half_writes 0 (take 8 l) new s ++ half_writes 2 (drop 8 l) new s) s)
 
--- V20: where a comparison of elements holds, of active bytes (DDI0553, "VCMP" and "VPT")
+-- V20: where a comparison of elements holds, of active bytes (DDI0553, "VCMP (vector)" and "VPT")
 abbrev pub compare_result : Comparison → State → List Bool
 compare_result r s = both (filled r.z (paired_tests (compares r.c.value r.z) (elements r.z r.n.value s) (lanes r.z (operand_register r.z r.by s))))
     (predicate_at s)

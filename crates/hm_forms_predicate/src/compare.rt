@@ -85,7 +85,7 @@ fn block_mask(k: u32) -> Option<u32>
     if k == 0 { None } else { Some(k) }
 }
 
-/// What beat `b` of `vcmp` or `vpt` touches: DDI0553, "VCMP" and "VPT". `b` is below 4.
+/// What beat `b` of `vcmp` or `vpt` touches: DDI0553, "VCMP (vector)" and "VPT". `b` is below 4.
 pub fn touch_compare(row: &Comparison, b: u8, r: &Regs) -> Touch
     requires { b < 4 }
     ensures reads { (m : Memory) (output : List ℕ) → result.reads ≡ reads_in (row_tree (compare_row row.now) b) r.now m output }
@@ -105,7 +105,7 @@ pub fn touch_compare(row: &Comparison, b: u8, r: &Regs) -> Touch
     touch_row(sources, None, None, shape, b, r)
 }
 
-/// Does beat `b` of `vcmp` or `vpt`: DDI0553, "VCMP" and "VPT". `b` is below 4.
+/// Does beat `b` of `vcmp` or `vpt`: DDI0553, "VCMP (vector)" and "VPT". `b` is below 4.
 pub fn beat_compare(row: &Comparison, b: u8, r: &mut Regs)
     requires { b < 4 }
     ensures done { (m : Memory) (output : List ℕ) → run (row_tree (compare_row row.now) b) r.old m output ≡ Ok (state_of r.new m output) }

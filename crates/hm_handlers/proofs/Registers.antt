@@ -23,7 +23,7 @@ use Rattle.hm_regs.specs.Stacks.{uses_process}
 use Rattle.hm_regs.specs.declared.Regs.{Regs}
 use Rattle.hm_thumb.specs.ArithRows.{t11}
 use Rattle.hm_isa.specs.Words.{bit_is_set}
-use Rattle.hm_thumb.specs.DataRows.{data_row, put_bits, put_data_sum, put_if}
+use Rattle.hm_thumb.specs.DataRows.{data_row, put_data_sum, put_if, put_logical}
 use Rattle.hm_thumb.specs.MemoryRows.{put_all, put_words}
 use Rattle.hm_thumb.specs.RegisterRows.{byte_row, logic_row, put}
 use Rattle.hm_thumb.specs.SystemRows.{exchanged, lane_move, selected, system_move, t18, with_special}
@@ -53,7 +53,7 @@ module _ (r : Regs) where
   put_if-same : (d x : ℕ) (q : Regs) → Same r q → Same r (put_if d x q)
   put_if-same d x q h = either (Same r) _ _ _ h h
 
-  bits-same : (s d x : ℕ) (c : Bool) (q : Regs) → Same r q → Same r (put_bits s d x c q)
+  bits-same : (s d x : ℕ) (c : Bool) (q : Regs) → Same r q → Same r (put_logical s d x c q)
   bits-same s d x c q h = let k = put_if-same d x q h in either (Same r) _ _ _ k k
 
   data_sum-same : (s d : ℕ) (x : Sum) (q : Regs) → Same r q → Same r (put_data_sum s d x q)

@@ -49,8 +49,8 @@ abbrev pub Becomes : {A : Type 0} → (A → A) → Option A → Option A → Ty
 Becomes {A} f old new = (x : A) → old ≡ Some x → new ≡ Some (f x)
 
 -- what was told is told still, as something that R relates to what it was
-abbrev pub Turns : {A : Type 0} → (A → A → Type 0) → Option A → Option A → Type 0
-Turns {A} R old new = (x : A) → old ≡ Some x → (y : A) × (new ≡ Some y) × R x y
+abbrev pub Changes : {A : Type 0} → (A → A → Type 0) → Option A → Option A → Type 0
+Changes {A} R old new = (x : A) → old ≡ Some x → (y : A) × (new ≡ Some y) × R x y
 
 -- what is told no more is never told again
 abbrev pub EndsForGood : {A : Type 0} → Option A → Option A → Type 0
@@ -93,13 +93,13 @@ Reads files name items (Err OutOfMemory) = Unit {0}
 -- what a write does to the files
 abbrev pub Writes : {T : Type 0} → List ℕ → List ℕ → Option FileMap → Option FileMap → Result T HostErr → Type 0
 Writes name bytes old new (Ok _) = Becomes (λ F. insert F name bytes) old new
-Writes name bytes old new (Err Failed) = Turns (KeepsOthers name) old new
+Writes name bytes old new (Err Failed) = Changes (KeepsOthers name) old new
 Writes name bytes old new (Err TooLarge) = ⊥
 Writes name bytes old new (Err OutOfMemory) = Stays old new
 
 -- what a print does to the printed bytes
 abbrev pub Prints : {T : Type 0} → List ℕ → Option (List ℕ) → Option (List ℕ) → Result T HostErr → Type 0
 Prints piece old new (Ok _) = Becomes (λ P. P ++ piece) old new
-Prints piece old new (Err Failed) = Turns (AddsPrefix piece) old new
+Prints piece old new (Err Failed) = Changes (AddsPrefix piece) old new
 Prints piece old new (Err TooLarge) = ⊥
 Prints piece old new (Err OutOfMemory) = Stays old new

@@ -608,7 +608,7 @@ code_v12 (v12.Bytes r) = code_long_bytes r
 code_v12 (v12.Halves r) = code_long_halves r
 code_v12 (v12.Full r) = code_long_full r
 
--- V13: the code of VCLS, VCLZ, VABS, VNEG, VQABS, VQNEG, size and registers 0 (DDI0553, "VCLS", "VCLZ", "VABS", "VNEG", "VQABS" and "VQNEG")
+-- V13: the code of VCLS, VCLZ, VABS, VNEG, VQABS, VQNEG, size and registers 0 (DDI0553, "VCLS", "VCLZ", "VABS (vector)", "VNEG (vector)", "VQABS" and "VQNEG")
 abbrev pub one_base : OneName → ℕ
 one_base one.Cls = 0xffb00440
 one_base one.Clz = 0xffb004c0
@@ -617,7 +617,7 @@ one_base one.Neg = 0xffb103c0
 one_base one.Qabs = 0xffb00740
 one_base one.Qneg = 0xffb007c0
 
--- V13: VCLS, VCLZ, VABS, VNEG, VQABS and VQNEG (DDI0553, "VCLS", "VCLZ", "VABS", "VNEG", "VQABS" and "VQNEG")
+-- V13: VCLS, VCLZ, VABS, VNEG, VQABS and VQNEG (DDI0553, "VCLS", "VCLZ", "VABS (vector)", "VNEG (vector)", "VQABS" and "VQNEG")
 abbrev pub code_one_element : OneElement → ℕ
 code_one_element r = one_base r.name + r.z.value ↑ 18 + r.d.value ↑ 13 + r.m.value ↑ 1
 
@@ -625,7 +625,7 @@ code_one_element r = one_base r.name + r.z.value ↑ 18 + r.d.value ↑ 13 + r.m
 abbrev pub code_invert : Invert → ℕ
 code_invert r = 0xffb005c0 + r.d.value ↑ 13 + r.m.value ↑ 1
 
--- V13: VCLS, VCLZ, VABS, VNEG, VQABS, VQNEG and VMVN (DDI0553, "VCLS", "VCLZ", "VABS", "VNEG", "VQABS", "VQNEG" and "VMVN (register)")
+-- V13: VCLS, VCLZ, VABS, VNEG, VQABS, VQNEG and VMVN (DDI0553, "VCLS", "VCLZ", "VABS (vector)", "VNEG (vector)", "VQABS", "VQNEG" and "VMVN (register)")
 abbrev pub code_v13 : V13 → ℕ
 code_v13 (v13.Elements r) = code_one_element r
 code_v13 (v13.Not r) = code_invert r
@@ -640,7 +640,7 @@ reverse_base reverse_.Rev16 = 0xffb00140
 abbrev pub code_v14 : V14 → ℕ
 code_v14 r = reverse_base r.name + r.z.value ↑ 18 + r.d.value ↑ 13 + r.m.value ↑ 1
 
--- V15: VMOV, VMVN, VORR, VBIC of an immediate (DDI0553, "VMOV (immediate)", "VMVN (immediate)", "VORR (immediate)", "VBIC (immediate)")
+-- V15: VMOV, VMVN, VORR, VBIC of an immediate (DDI0553, "VMOV (immediate) (vector)", "VMVN (immediate)", "VORR (immediate)", "VBIC (immediate)")
 abbrev pub code_v15 : V15 → ℕ
 code_v15 r = 0xef800050 + r.i.value ↑ 28 + r.i3.value ↑ 16 + r.d.value ↑ 13 + r.cm.value ↑ 8 + r.op.value ↑ 5 + r.i4.value
 
@@ -695,19 +695,19 @@ code_v19 (v19.Wrapped r) = code_wrapped_offsets r
 abbrev pub mask_code : ℕ → ℕ
 mask_code k = (k / 8) ↑ 22 + (k % 8) ↑ 13
 
--- V20: VCMP and VPT of two vectors (DDI0553, "VCMP" and "VPT")
+-- V20: VCMP and VPT of two vectors (DDI0553, "VCMP (vector)" and "VPT")
 abbrev pub code_compare_vectors : CompareVectors → ℕ
 code_compare_vectors r =
     0xfe010f00 + mask_code r.k.value + r.z.value ↑ 20 + r.n.value ↑ 17 + (r.c.value / 4) ↑ 12 + (r.c.value % 2) ↑ 7 + r.m.value ↑ 1
     + r.c.value / 2 % 2
 
--- V20: VCMP and VPT of a vector and a core register or zero (DDI0553, "VCMP" and "VPT")
+-- V20: VCMP and VPT of a vector and a core register or zero (DDI0553, "VCMP (vector)" and "VPT")
 abbrev pub code_compare_scalar : CompareScalar → ℕ
 code_compare_scalar r =
     0xfe010f40 + mask_code r.k.value + r.z.value ↑ 20 + r.n.value ↑ 17 + (r.c.value / 4) ↑ 12 + (r.c.value % 2) ↑ 7
     + (r.c.value / 2 % 2) ↑ 5 + r.m.value
 
--- V20: VCMP and VPT (DDI0553, "VCMP" and "VPT")
+-- V20: VCMP and VPT (DDI0553, "VCMP (vector)" and "VPT")
 abbrev pub code_v20 : V20 → ℕ
 code_v20 (v20.Vectors r) = code_compare_vectors r
 code_v20 (v20.Scalar r) = code_compare_scalar r

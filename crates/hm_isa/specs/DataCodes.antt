@@ -61,7 +61,7 @@ half_base half.Movt = 0xf2c00000
 abbrev pub code_t4 : T4 → ℕ
 code_t4 r = half_base r.name + r.i4.value ↑ 16 + r.i.value ↑ 26 + r.i3.value ↑ 12 + r.d.value ↑ 8 + r.i8.value
 
--- T5: the code of SSAT and USAT, their registers, shift and width 0 (DDI0553, "SSAT" and "USAT")
+-- T5: the code of SSAT and USAT, their registers, shift and number of bits 0 (DDI0553, "SSAT" and "USAT")
 abbrev pub saturate_base : SaturateName → ℕ
 saturate_base saturate.Ssat = 0xf3000000
 saturate_base saturate.Usat = 0xf3800000

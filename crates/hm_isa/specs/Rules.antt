@@ -127,7 +127,7 @@ is_wide_list name w n list =
 abbrev pub is_stacked : ℕ → ℕ → Bool
 is_stacked v k = nat_lt 0 k && nat_lt (v + k) 17
 
--- V6: results of VMULLB and VMULLT of two words' width do not overwrite a word that is still to be read (DDI0553, "VMULL (integer)")
+-- V6: results of VMULLB and VMULLT that are two words do not overwrite a word that is still to be read (DDI0553, "VMULL (integer)")
 abbrev pub is_widened : ℕ → ℕ → ℕ → ℕ → Bool
 is_widened z d n m = not (nat_eq z 2) || (not (nat_eq d n) && not (nat_eq d m))
 

@@ -84,7 +84,7 @@ imm12 i i3 i8 = 2048 * i + 256 * i3 + i8
 abbrev pub imm16 : ℕ → ℕ → ℕ → ℕ → ℕ
 imm16 i4 i i3 i8 = 4096 * i4 + imm12 i i3 i8
 
--- V15: the bits i, i3 and i4 one behind another (DDI0553, "VMOV (immediate)")
+-- V15: the bits i, i3 and i4 one behind another (DDI0553, "VMOV (immediate) (vector)")
 abbrev pub imm8 : ℕ → ℕ → ℕ → ℕ
 imm8 i i3 i4 = 128 * i + 16 * i3 + i4
 

@@ -457,7 +457,7 @@ pub enum OneName {
     Qneg,
 }
 
-/// `vcls`, `vclz`, `vabs`, `vneg`, `vqabs`, `vqneg`, as `vabs.s8 qd,qm`. V13: DDI0553, "VCLS", "VCLZ", "VABS", "VNEG", "VQABS"
+/// `vcls`, `vclz`, `vabs`, `vneg`, `vqabs`, `vqneg`, as `vabs.s8 qd,qm`. V13: DDI0553, "VCLS", "VCLZ", "VABS (vector)", "VNEG (vector)", "VQABS"
 /// and "VQNEG".
 #[derive(Clone, Copy)]
 pub struct OneElement {
@@ -479,7 +479,7 @@ pub struct Invert {
     pub m: QRegister,
 }
 
-/// Operations on one vector: DDI0553, "VCLS", "VCLZ", "VABS", "VNEG", "VQABS", "VQNEG" and "VMVN (register)".
+/// Operations on one vector: DDI0553, "VCLS", "VCLZ", "VABS (vector)", "VNEG (vector)", "VQABS", "VQNEG" and "VMVN (register)".
 #[derive(Clone, Copy)]
 pub enum V13 {
     Elements(OneElement),
@@ -510,7 +510,7 @@ pub struct V14 {
     pub ghost rule: { IsTrue (is_reversed name z.value d.value m.value) },
 }
 
-/// `vmov`, `vmvn`, `vorr`, `vbic` with an immediate, as `vmov.i32 qd,#x`: DDI0553, "VMOV (immediate)", "VMVN (immediate)",
+/// `vmov`, `vmvn`, `vorr`, `vbic` with an immediate, as `vmov.i32 qd,#x`: DDI0553, "VMOV (immediate) (vector)", "VMVN (immediate)",
 /// "VORR (immediate)" and "VBIC (immediate)".
 ///
 /// The immediate has eight bits, i, i3 and i4 from the highest on.
@@ -643,7 +643,7 @@ pub enum V19 {
     Wrapped(WrappedOffsets),
 }
 
-/// `vcmp` and `vpt` of two vectors, as `vcmp.i8 eq,qn,qm`. V20: DDI0553, "VCMP" and "VPT".
+/// `vcmp` and `vpt` of two vectors, as `vcmp.i8 eq,qn,qm`. V20: DDI0553, "VCMP (vector)" and "VPT".
 #[derive(Clone, Copy)]
 pub struct CompareVectors {
     /// The mask of `vpt`; 0 for `vcmp`.
@@ -658,7 +658,7 @@ pub struct CompareVectors {
     pub m: QRegister,
 }
 
-/// `vcmp` and `vpt` of a vector and a core register, as `vcmp.i8 eq,qn,rm`, or zero, which is 15 as `m`. V20: DDI0553, "VCMP" and
+/// `vcmp` and `vpt` of a vector and a core register, as `vcmp.i8 eq,qn,rm`, or zero, which is 15 as `m`. V20: DDI0553, "VCMP (vector)" and
 /// "VPT".
 #[derive(Clone, Copy)]
 pub struct CompareScalar {
@@ -675,7 +675,7 @@ pub struct CompareScalar {
     pub ghost not_sp: { m.value ≢ 13 },
 }
 
-/// Comparisons: DDI0553, "VCMP" and "VPT".
+/// Comparisons: DDI0553, "VCMP (vector)" and "VPT".
 #[derive(Clone, Copy)]
 pub enum V20 {
     Vectors(CompareVectors),

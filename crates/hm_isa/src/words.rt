@@ -197,7 +197,7 @@ pub fn imm16(i4: Below<16>, i: Bit, i3: Below<8>, i8: Byte) -> u32
     4096 * i4.get() + imm12(i, i3, i8)
 }
 
-/// The bits `i`, `i3` and `i4` of a code, one behind another, a byte: DDI0553, "VMOV (immediate)".
+/// The bits `i`, `i3` and `i4` of a code, one behind another, a byte: DDI0553, "VMOV (immediate) (vector)".
 pub fn imm8(i: Bit, i3: Below<8>, i4: Below<16>) -> u32
     ensures value { result ≡ imm8 i.value i3.value i4.value }
     ensures below { result < 256 }

@@ -9,7 +9,7 @@ use Rattle.hm_kernel_lang.specs.declared.text.Expr.{Expr}
 use Rattle.hm_kernel_lang.specs.declared.text.Expr.TheVariants.{Name, Number, Apply'}
 use Rattle.hm_kernel_lang.specs.declared.text.Line.{Line}
 use Rattle.hm_kernel_lang.specs.declared.text.Text.{Text}
-use Rattle.hm_kernel_lang.specs.Language.{lines_steps, names, numbers, operations, steps, turns}
+use Rattle.hm_kernel_lang.specs.Language.{lines_steps, names, numbers, operations, rounds, steps}
 use Rattle.hm_kernel_lang.specs.Texts.{IsOver, IsSet, IsText}
 use Rattle.hm_kernel_lang.proofs.Numbers.{number_fits}
 use Rattle.hm_kernel_text.specs.Held.{array_written, expr_written, name_at, set_written, written}
@@ -34,7 +34,7 @@ tree_operations (apply o l r) = tree_operations l + tree_operations r + 1
 
 abbrev sets_steps : ElementType → ℕ → List WrittenSet → ℕ
 sets_steps t n [] = 0
-sets_steps t n (s ∷ ss) = 4 + turns t n * (4 * tree_names s.expr + 3 * tree_numbers s.expr + tree_operations s.expr + 6) + sets_steps t n ss
+sets_steps t n (s ∷ ss) = 4 + rounds t n * (4 * tree_names s.expr + 3 * tree_numbers s.expr + tree_operations s.expr + 6) + sets_steps t n ss
 
 abbrev written_steps : Written → ℕ
 written_steps w = sets_steps w.element w.count w.sets + 1
@@ -75,7 +75,7 @@ module _ (t : ElementType) (arrays : List Array) (named : AllNames arrays) where
       let c = numbers_are l.expr over in
       let o = operations_are l.expr over in
       let rest = lines_are n ls (All-tail (IsSet t (length arrays)) l ls h) in
-      λ j. 4 + turns t n * (4 * a j + 3 * c j + o j + 6) + rest j
+      λ j. 4 + rounds t n * (4 * a j + 3 * c j + o j + 6) + rest j
 
 steps_are : (bytes : List ℕ) (x : Text) → IsText x → IsKernel bytes (written x) → steps x ≡ written_steps (written x)
 steps_are bytes x text is =

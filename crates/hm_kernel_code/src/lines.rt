@@ -1,4 +1,4 @@
-//! The instructions of lines: a loop each, whose last turn does what is left.
+//! The instructions of lines: a loop each, whose last round does what is left.
 
 ghost use Rattle.std.specs.Prelude.{◌<◌, ◌++◌, ◌∷◌, [], length, map, IfOk};
 ghost use Rattle.hm_kernel_code.specs.Appending.{Appends};

@@ -1,16 +1,16 @@
 //! How many steps the code of a text takes.
 
 ghost use Rattle.std.specs.Prelude.{◌≡◌, ◌+◌, ◌<◌, ◌≤◌, ◌^◌};
-ghost use Rattle.hm_kernel_lang.specs.Language.{line_steps, names, numbers, steps, turns};
+ghost use Rattle.hm_kernel_lang.specs.Language.{line_steps, names, numbers, rounds, steps};
 ghost use Rattle.hm_kernel_lang.specs.Texts.{IsText};
 
 use crate::parts::parts_of;
 use hm_kernel_lang::text::{ElementType, Expr, Text};
 
 /// How many vectors of 128 bits hold so many elements.
-fn turns_of(t: ElementType, count: u32) -> u32
+fn rounds_of(t: ElementType, count: u32) -> u32
     requires few { count ≤ 65536 }
-    ensures value { result ≡ turns t count }
+    ensures value { result ≡ rounds t count }
     ensures few { result ≤ 16384 }
 {
     (count * (8 * t.bytes())).div_ceil(128)
@@ -24,8 +24,8 @@ fn line_steps(t: ElementType, count: u32, e: &Expr) -> u64
     ensures small { result < 2 ^ 24 }
 {
     let parts = parts_of(e);
-    let turn = 4 * parts.names + 3 * parts.numbers + parts.operations + 6;
-    (4 + turns_of(t, count) * turn) as u64
+    let round = 4 * parts.names + 3 * parts.numbers + parts.operations + 6;
+    (4 + rounds_of(t, count) * round) as u64
 }
 
 /// How many steps the code of a text takes to its end, the breakpoint among them.

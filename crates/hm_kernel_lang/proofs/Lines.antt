@@ -1,4 +1,4 @@
--- The loop of a line, by induction over its turns; and all lines.
+-- The loop of a line, by induction over its rounds; and all lines.
 use Rattle.std.proofs.Common.{◌≡◌, ℕ, zero, suc, ◌+◌, ◌-◌, ◌*◌, ◌/◌, ◌%◌, ◌^◌, ◌<◌, ◌≤◌, Bool, true, false, cond, nat_eq, min, List, [], ◌∷◌, ◌++◌}
 use Rattle.std.proofs.Common.{length, map, refl, sym, ap, ◌∙◌, subst, ⊎_elim, arith, length-append, Result}
 use Rattle.std.proofs.lemmas.Bool.{cases_lt, le-leb, lt-leb}
@@ -7,11 +7,11 @@ use Rattle.std.proofs.Math.Nat.{suc-mul}
 use Rattle.hm_kernel_lang.specs.declared.text.ElementType.{ElementType}
 use Rattle.hm_kernel_lang.specs.declared.text.Line.{Line}
 use Rattle.hm_kernel_lang.specs.Language.{Bytes, after_line, after_lines, bytes, lanes, line_steps, lines_steps, names, need, numbers, operations, replaced}
-use Rattle.hm_kernel_lang.specs.Language.{turns, value}
+use Rattle.hm_kernel_lang.specs.Language.{rounds, value}
 use Rattle.hm_kernel_lang.specs.Machine.{View, Item, Plain, Begin, Again, Low, High, Offset, again, begun, exec, size_code}
 use Rattle.hm_kernel_lang.specs.Code.{body_code, end_code, expr_code, halves_of, head_code, line_code, lines_code}
 use Rattle.hm_kernel_lang.specs.Correct.{AreLines, CodeStands, Ends, IsLine, Reaches, Rows}
-use Rattle.hm_kernel_lang.proofs.Numbers.{high_half, inside, last_turn, low_half, next_vector, no_turn, one_turn, two_halves}
+use Rattle.hm_kernel_lang.proofs.Numbers.{high_half, inside, last_round, low_half, next_vector, no_round, one_round, two_halves}
 use Rattle.hm_kernel_lang.proofs.Expressions.{Cans, IsReady, addressed, cans_append, evaluated, execs, execs_append, is_within, placed_high, ready_still}
 use Rattle.hm_kernel_lang.proofs.Replacing.{replaced_on, replaced_same, value_outside}
 use Rattle.hm_kernel_lang.proofs.Values.{no_bytes}
@@ -23,8 +23,8 @@ eq_true a h = grind (arith, nat_tests)
 eq_false : (a : ℕ) → 0 < a → nat_eq a 0 ≡ false
 eq_false a h = grind (arith, nat_tests)
 
-some_turn : (t : ElementType) (r : ℕ) → 0 < r → 0 ≡ turns t r → ⊥
-some_turn t r h e = ⊎_elim (λ lt. let g = one_turn t r lt in absurd (omega arith)) (λ le. let g = last_turn t r h le in absurd (omega arith))
+some_round : (t : ElementType) (r : ℕ) → 0 < r → 0 ≡ rounds t r → ⊥
+some_round t r h e = ⊎_elim (λ lt. let g = one_round t r lt in absurd (omega arith)) (λ le. let g = last_round t r h le in absurd (omega arith))
     (cases_lt (lanes t) r)
 
 -- ONE TURN
@@ -34,7 +34,7 @@ module _ (t : ElementType) (at : ℕ → ℕ) (n : ℕ) (l : Line) (fine : IsLin
   f i = value t at l.expr i m
 
   -- at the start of the body the elements below j are replaced
-  pub record AtTurn (j : ℕ) (v : View) : Type 0 where
+  pub record AtRound (j : ℕ) (v : View) : Type 0 where
     pub size : v.size ≡ size_code t
     pub offset : v.offset ≡ bytes t * j
     pub left : j + v.left ≡ n
@@ -42,31 +42,31 @@ module _ (t : ElementType) (at : ℕ → ℕ) (n : ℕ) (l : Line) (fine : IsLin
     pub byte : v.byte ≡ replaced t (at l.array) j f m
 
   -- and at its end those of a vector more
-  pub record TurnDone (j : ℕ) (v w : View) : Type 0 where
+  pub record RoundDone (j : ℕ) (v w : View) : Type 0 where
     pub cans : Cans t (body_code at l) v
     pub size : w.size ≡ size_code t
     pub offset : w.offset ≡ bytes t * (j + lanes t)
     pub left : w.left ≡ v.left
     pub byte : w.byte ≡ replaced t (at l.array) (j + min v.left (lanes t)) f m
 
-  stored : (j : ℕ) (v x : View) → AtTurn j v → x.left ≡ v.left → x.byte ≡ v.byte → ((k : ℕ) → k < v.left → x.lane 0 k ≡ value t at l.expr (j + k) v.byte)
+  stored : (j : ℕ) (v x : View) → AtRound j v → x.left ≡ v.left → x.byte ≡ v.byte → ((k : ℕ) → k < v.left → x.lane 0 k ≡ value t at l.expr (j + k) v.byte)
       → (y : ℕ) → y ≡ at l.array + bytes t * j
       → replaced t y (min x.left (lanes t)) (x.lane 0) x.byte ≡ replaced t (at l.array) (j + min v.left (lanes t)) f m
-  stored j v x turn left byte is y there =
+  stored j v x round left byte is y there =
       let a = at l.array in
       let c = min v.left (lanes t) in
       let b = a + bytes t * j in
-      let whole = turn.left in
+      let whole = round.left in
       ap (λ (z : ℕ). replaced t z (min x.left (lanes t)) (x.lane 0) x.byte) there
       ∙ ap (λ (z : ℕ). replaced t b (min z (lanes t)) (x.lane 0) x.byte) left
-      ∙ ap (replaced t b c (x.lane 0)) (byte ∙ turn.byte)
+      ∙ ap (replaced t b c (x.lane 0)) (byte ∙ round.byte)
       ∙ replaced_same t b c (x.lane 0) (λ e. f (j + e)) (replaced t a j f m)
-      (λ e h. is e (omega arith) ∙ ap (value t at l.expr (j + e)) turn.byte
+      (λ e h. is e (omega arith) ∙ ap (value t at l.expr (j + e)) round.byte
       ∙ value_outside t at n a j (j + e) f m l.expr fine.names (omega arith) (omega arith))
       ∙ replaced_on t a j c f m
 
-  ready_at : (j : ℕ) (v : View) → AtTurn j v → IsReady t n j v
-  ready_at j v turn = record { size = turn.size; offset = turn.offset; inside = let whole = turn.left in omega arith }
+  ready_at : (j : ℕ) (v : View) → AtRound j v → IsReady t n j v
+  ready_at j v round = record { size = round.size; offset = round.offset; inside = let whole = round.left in omega arith }
 
   further : (j o : ℕ) (v : View) → IsReady t n j v → o ≡ bytes t * j → (o + 16) % 2 ^ 32 ≡ bytes t * (j + lanes t)
   further j o v ready e =
@@ -75,10 +75,10 @@ module _ (t : ElementType) (at : ℕ → ℕ) (n : ℕ) (l : Line) (fine : IsLin
       let same : (o + 16) % 2 ^ 32 ≡ o + 16 = omega arith in
       same ∙ ap (λ (x : ℕ). x + 16) e ∙ next_vector t j
 
-  pub turn_done : (j : ℕ) (v : View) → AtTurn j v → TurnDone j v (execs t (body_code at l) v)
-  turn_done j v turn =
+  pub round_done : (j : ℕ) (v : View) → AtRound j v → RoundDone j v (execs t (body_code at l) v)
+  round_done j v round =
       let a = at l.array in
-      let ready = ready_at j v turn in
+      let ready = ready_at j v round in
       let shallow : 0 + need l.expr ≤ 8 = let h = fine.shallow in omega arith in
       let e = evaluated t at n a j l.expr 0 v ready fine.names shallow in
       let x = execs t (expr_code at l.expr 0) v in
@@ -98,7 +98,7 @@ module _ (t : ElementType) (at : ℕ → ℕ) (n : ℕ) (l : Line) (fine : IsLin
         size = ap (λ (w : View). w.size) is ∙ ready_x.size;
         offset = ap (λ (w : View). w.offset) is ∙ further j x.offset x ready_x ready_x.offset;
         left = ap (λ (w : View). w.left) is ∙ e.leaves.left;
-        byte = ap (λ (w : View). w.byte) is ∙ stored j v x turn e.leaves.left e.leaves.byte e.is y.scratch there;
+        byte = ap (λ (w : View). w.byte) is ∙ stored j v x round e.leaves.left e.leaves.byte e.is y.scratch there;
       }
 
   -- THE LOOP
@@ -118,50 +118,52 @@ module _ (t : ElementType) (at : ℕ → ℕ) (n : ℕ) (l : Line) (fine : IsLin
 
     module _ (p : ℕ) (stands : CodeStands Stands p (map Plain (body_code at l) ++ Again h ∷ [])) where
       -- the body and the branch behind it
-      around : (j : ℕ) (v : View) (s : S) → v.pc ≡ p → AtTurn j v → Shows v s → Reaches next Shows long s (again t h (execs t (body_code at l) v))
-      around j v s pc turn shows =
+      around : (j : ℕ) (v : View) (s : S) → v.pc ≡ p → AtRound j v → Shows v s → Reaches next Shows long s (again t h (execs t (body_code at l) v))
+      around j v s pc round shows =
           let b = body_code at l in
           let w = execs t b v in
-          let d = turn_done j v turn in
+          let d = round_done j v round in
           let r = straight next Shows t Stands rows b v s shows
           (subst (λ (x : ℕ). CodeStands Stands x (map Plain b)) (sym pc) (stands_front Stands p (map Plain b) (Again h ∷ []) stands)) d.cans in
           let here : p + 2 * items_halves (map Plain b) ≡ w.pc = omega (arith, plain_halves b, pc_execs t b v) in
           let there = subst (λ (x : ℕ). Stands x (Again h)) here (stands_back Stands p (map Plain b) (Again h ∷ []) stands).0 in
           joined next Shows (length b) 1 s w (again t h w) r (rows.again h w r.to r.shows there d.size)
 
-      after_last : (k j : ℕ) (v : View) (s : S) → v.pc ≡ p → AtTurn j v → suc k ≡ turns t v.left → Shows v s → v.left ≤ lanes t → Looped p (suc k * long) s
-      after_last k j v s pc turn is shows le =
+      after_last : (k j : ℕ) (v : View) (s : S) → v.pc ≡ p → AtRound j v → suc k ≡ rounds t v.left → Shows v s → v.left ≤ lanes t
+          → Looped p (suc k * long) s
+      after_last k j v s pc round is shows le =
           let b = body_code at l in
           let w = execs t b v in
-          let d = turn_done j v turn in
+          let d = round_done j v round in
           let leaves : again t h w ≡ record w { pc = w.pc + 4; size = 4 } =
           ap (λ (u : Bool). cond u (record w { pc = w.pc + 4; size = 4 }) (record w { pc = w.pc + 4 - 2 * h; left = w.left - lanes t }))
           (le-leb w.left (lanes t) (let same = d.left in omega arith)) in
-          let one : suc k ≡ 1 = is ∙ last_turn t v.left turn.some le in
+          let one : suc k ≡ 1 = is ∙ last_round t v.left round.some le in
           let many : long ≡ suc k * long = sym (ap (λ (x : ℕ). x * long) one ∙ (let q : 1 * long ≡ long = omega arith in q)) in
-          let all : j + min v.left (lanes t) ≡ n = let whole = turn.left in omega arith in
+          let all : j + min v.left (lanes t) ≡ n = let whole = round.left in omega arith in
           record {
             view = record w { pc = w.pc + 4; size = 4 };
-            reaches = so_many next Shows long (suc k * long) s _ many (subst (λ (x : View). Reaches next Shows long s x) leaves (around j v s pc turn shows));
+            reaches = so_many next Shows long (suc k * long) s _ many (subst (λ (x : View). Reaches next Shows long s x) leaves (around j v s pc round shows));
             pc = omega (arith, pc_execs t b v);
             byte = d.byte ∙ ap (λ (x : ℕ). replaced t (at l.array) x f m) all;
           }
 
-      before_last : (k j : ℕ) (v : View) (s : S) → v.pc ≡ p → AtTurn j v → suc k ≡ turns t v.left → Shows v s → lanes t < v.left
-          → ((w : View) (u : S) → w.pc ≡ p → AtTurn (j + lanes t) w → k ≡ turns t w.left → Shows w u → Looped p (k * long) u) → Looped p (suc k * long) s
-      before_last k j v s pc turn is shows lt rest =
+      before_last : (k j : ℕ) (v : View) (s : S) → v.pc ≡ p → AtRound j v → suc k ≡ rounds t v.left → Shows v s → lanes t < v.left
+          → ((w : View) (u : S) → w.pc ≡ p → AtRound (j + lanes t) w → k ≡ rounds t w.left → Shows w u → Looped p (k * long) u)
+          → Looped p (suc k * long) s
+      before_last k j v s pc round is shows lt rest =
           let b = body_code at l in
           let w = execs t b v in
-          let d = turn_done j v turn in
+          let d = round_done j v round in
           let x = record w { pc = w.pc + 4 - 2 * h; left = w.left - lanes t } in
           let leaves : again t h w ≡ x =
           ap (λ (u : Bool). cond u (record w { pc = w.pc + 4; size = 4 }) x) (lt-leb w.left (lanes t) (let same = d.left in omega arith)) in
-          let r = subst (λ (y : View). Reaches next Shows long s y) leaves (around j v s pc turn shows) in
-          let whole = turn.left in
+          let r = subst (λ (y : View). Reaches next Shows long s y) leaves (around j v s pc round shows) in
+          let whole = round.left in
           let same = d.left in
           let full : j + min v.left (lanes t) ≡ j + lanes t = omega arith in
-          let fewer : k ≡ turns t (w.left - lanes t) = let e : suc k ≡ suc (turns t (v.left - lanes t)) = is ∙ one_turn t v.left lt in
-          (let g : k ≡ turns t (v.left - lanes t) = omega arith in g ∙ ap (λ (y : ℕ). turns t (y - lanes t)) (sym d.left)) in
+          let fewer : k ≡ rounds t (w.left - lanes t) = let e : suc k ≡ suc (rounds t (v.left - lanes t)) = is ∙ one_round t v.left lt in
+          (let g : k ≡ rounds t (v.left - lanes t) = omega arith in g ∙ ap (λ (y : ℕ). rounds t (y - lanes t)) (sym d.left)) in
           let q = rest x r.to (omega (arith, pc_execs t b v))
           (record {
             size = d.size;
@@ -179,20 +181,20 @@ module _ (t : ElementType) (at : ℕ → ℕ) (n : ℕ) (l : Line) (fine : IsLin
             byte = q.byte;
           }
 
-      pub looped : (k j : ℕ) (v : View) (s : S) → v.pc ≡ p → AtTurn j v → k ≡ turns t v.left → Shows v s → Looped p (k * long) s
-      looped zero j v s pc turn is shows = absurd (some_turn t v.left turn.some is)
-      looped (suc k) j v s pc turn is shows =
-          ⊎_elim (λ lt. before_last k j v s pc turn is shows lt (λ w u pc_w turn_w is_w shows_w. looped k (j + lanes t) w u pc_w turn_w is_w shows_w))
-          (λ le. after_last k j v s pc turn is shows le) (cases_lt (lanes t) v.left)
+      pub looped : (k j : ℕ) (v : View) (s : S) → v.pc ≡ p → AtRound j v → k ≡ rounds t v.left → Shows v s → Looped p (k * long) s
+      looped zero j v s pc round is shows = absurd (some_round t v.left round.some is)
+      looped (suc k) j v s pc round is shows =
+          ⊎_elim (λ lt. before_last k j v s pc round is shows lt (λ w u pc_w round_w is_w shows_w. looped k (j + lanes t) w u pc_w round_w is_w shows_w))
+          (λ le. after_last k j v s pc round is shows le) (cases_lt (lanes t) v.left)
 
--- A LINE: its head, the entry of its loop, and its turns
+-- A LINE: its head, the entry of its loop, and its rounds
 pub items_append : (is js : List Item) → items_halves (is ++ js) ≡ items_halves is + items_halves js
 items_append [] js = omega arith
 items_append (i ∷ is) js = omega (arith, items_append is js)
 
--- how many steps a turn takes
-turn_length : (at : ℕ → ℕ) (l : Line) → length (body_code at l) + 1 ≡ 4 * names l.expr + 3 * numbers l.expr + operations l.expr + 6
-turn_length at l = omega (arith, expr_length at l.expr 0, length-append (expr_code at l.expr 0) (end_code (at l.array)))
+-- how many steps a round takes
+round_length : (at : ℕ → ℕ) (l : Line) → length (body_code at l) + 1 ≡ 4 * names l.expr + 3 * numbers l.expr + operations l.expr + 6
+round_length at l = omega (arith, expr_length at l.expr 0, length-append (expr_code at l.expr 0) (end_code (at l.array)))
 
 line_halves : (at : ℕ → ℕ) (n : ℕ) (l : Line) → items_halves (line_code at n l) ≡ 7 + (halves_of (body_code at l) + 2)
 line_halves at n l = omega (arith, items_append (map Plain (body_code at l)) (Again (halves_of (body_code at l) + 2) ∷ []), plain_halves (body_code at l))
@@ -233,9 +235,9 @@ module _ {S E : Type 0} (t : ElementType) (next : S → Result S E) (Shows : Vie
         let w = record hv { pc = hv.pc + 4 + 2 * h } in
         let leaves : begun t h hv ≡ w =
         ap (λ (u : Bool). cond u w (record hv { pc = hv.pc + 4; left = hv.length; size = size_code t })) (eq_true hv.length (two_halves n ∙ none)) in
-        let no_turns : turns t n ≡ 0 = ap (turns t) none ∙ no_turn t in
+        let no_rounds : rounds t n ≡ 0 = ap (rounds t) none ∙ no_round t in
         let many : 4 ≡ line_steps t n l.expr =
-        sym (ap (λ (x : ℕ). 4 + x * (4 * names l.expr + 3 * numbers l.expr + operations l.expr + 6)) no_turns
+        sym (ap (λ (x : ℕ). 4 + x * (4 * names l.expr + 3 * numbers l.expr + operations l.expr + 6)) no_rounds
         ∙ (let z : 4 + 0 * (4 * names l.expr + 3 * numbers l.expr + operations l.expr + 6) ≡ 4 = omega arith in z)) in
         record {
           view = w;
@@ -254,14 +256,14 @@ module _ {S E : Type 0} (t : ElementType) (next : S → Result S E) (Shows : Vie
         let r = subst (λ (x : View). Reaches next Shows 4 s x) leaves (entered v s shows stands) in
         let p = v.pc + 2 * 5 + 2 * 2 in
         let inner = (stands_back Stands v.pc (map Plain (head_code n)) behind_head stands).1 in
-        let q = looped t at n l fine v.byte next Shows Stands rows p inner (turns t n) 0 w r.to (omega arith)
-        (record { size = refl; offset = sym (no_bytes t); left = omega arith; some = omega arith; byte = refl }) (ap (turns t) (sym is)) r.shows in
-        let step = turn_length at l in
-        let many : 4 + turns t n * (length (body_code at l) + 1) ≡ line_steps t n l.expr = ap (λ (x : ℕ). 4 + turns t n * x) step in
+        let q = looped t at n l fine v.byte next Shows Stands rows p inner (rounds t n) 0 w r.to (omega arith)
+        (record { size = refl; offset = sym (no_bytes t); left = omega arith; some = omega arith; byte = refl }) (ap (rounds t) (sym is)) r.shows in
+        let step = round_length at l in
+        let many : 4 + rounds t n * (length (body_code at l) + 1) ≡ line_steps t n l.expr = ap (λ (x : ℕ). 4 + rounds t n * x) step in
         record {
           view = q.view;
-          reaches = so_many next Shows (4 + turns t n * (length (body_code at l) + 1)) (line_steps t n l.expr) s q.view many
-              (joined next Shows 4 (turns t n * (length (body_code at l) + 1)) s w q.view r q.reaches);
+          reaches = so_many next Shows (4 + rounds t n * (length (body_code at l) + 1)) (line_steps t n l.expr) s q.view many
+              (joined next Shows 4 (rounds t n * (length (body_code at l) + 1)) s w q.view r q.reaches);
           pc = q.pc ∙ (let z : p + 2 * h ≡ v.pc + 2 * items_halves (line_code at n l) = omega (arith, line_halves at n l) in z);
           byte = q.byte;
         }

@@ -151,13 +151,13 @@ need (Name i) = 1
 need (Number n) = 1
 need (Apply' o p l q r) = max (need l) (1 + need r)
 
--- as many turns as vectors of 128 bits hold n elements
-abbrev pub turns : ElementType → ℕ → ℕ
-turns t n = (n * (8 * bytes t) + 127) / 128
+-- as many rounds of the loop as vectors of 128 bits hold n elements
+abbrev pub rounds : ElementType → ℕ → ℕ
+rounds t n = (n * (8 * bytes t) + 127) / 128
 
 -- how many instructions the code of a line does, with n elements
 abbrev pub line_steps : ElementType → ℕ → Expr → ℕ
-line_steps t n e = 4 + turns t n * (4 * names e + 3 * numbers e + operations e + 6)
+line_steps t n e = 4 + rounds t n * (4 * names e + 3 * numbers e + operations e + 6)
 
 -- how many instructions the code of these lines does, with n elements
 abbrev pub lines_steps : ElementType → ℕ → List Line → ℕ

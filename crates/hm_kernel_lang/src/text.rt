@@ -52,7 +52,7 @@ pub enum Expr {
 /// An array of a text.
 ///
 /// `name` is its ASCII name, `addr` the address of its first element in SRAM, and `values` the values that its first elements
-/// are given, each below 2 to the power of the element's width; the other elements start as zero.
+/// are given, each below 2 to the power of the element's size in bits; the other elements start as zero.
 #[derive(Drop)]
 pub struct Array {
     pub name: Vec<u8>,

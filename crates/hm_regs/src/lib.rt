@@ -54,7 +54,7 @@ pub struct Regs {
     pub ipsr: u16,
 }
 
-/// `w` with the low bits of `x` as its bits `hi` to `lo`, which are 31 to 0.
+/// `w` with the low bits of `x` as its bits `hi` to `lo`, where `lo` is at most `hi`, and `hi` at most 31.
 pub fn put_bits(w: u32, hi: u32, lo: u32, x: u32) -> u32
     requires order { lo ≤ hi }
     requires top { hi ≤ 31 }

@@ -1,7 +1,7 @@
 //! The rows T1 and T2: `and` to `rsb` with a constant or a shifted register.
 
 ghost use Rattle.std.specs.Prelude.{◌≡◌, ◌<◌};
-ghost use Rattle.hm_thumb.specs.DataRows.{data_row, put_bits, put_data_sum, put_if, t1, t2};
+ghost use Rattle.hm_thumb.specs.DataRows.{data_row, put_data_sum, put_if, put_logical, t1, t2};
 
 use crate::operands::{imm_shift_c, reg_or_zero};
 use hm_base::Place;
@@ -21,9 +21,9 @@ fn put_if(d: u32, x: u32, regs: &mut Regs)
 }
 
 /// Puts bits into register `d`; with `s` N, Z and C tell them.
-fn put_bits(s: u32, d: u32, x: u32, carry: bool, regs: &mut Regs)
+fn put_logical(s: u32, d: u32, x: u32, carry: bool, regs: &mut Regs)
     requires { d < 16 }
-    ensures regs { regs.new ≡ put_bits s d x carry regs.old }
+    ensures regs { regs.new ≡ put_logical s d x carry regs.old }
 {
     put_if(d, x, regs);
     if s == 1 {
@@ -51,11 +51,11 @@ fn operate(name: DataName, s: u32, d: u32, x: u32, second: Shifted, regs: &mut R
     let y = second.result;
     let out = second.carry;
     match name {
-        DataName::And => put_bits(s, d, x & y, out, regs),
-        DataName::Bic => put_bits(s, d, x & !y, out, regs),
-        DataName::Orr => put_bits(s, d, x | y, out, regs),
-        DataName::Orn => put_bits(s, d, x | !y, out, regs),
-        DataName::Eor => put_bits(s, d, x ^ y, out, regs),
+        DataName::And => put_logical(s, d, x & y, out, regs),
+        DataName::Bic => put_logical(s, d, x & !y, out, regs),
+        DataName::Orr => put_logical(s, d, x | y, out, regs),
+        DataName::Orn => put_logical(s, d, x | !y, out, regs),
+        DataName::Eor => put_logical(s, d, x ^ y, out, regs),
         DataName::Add => put_data_sum(s, d, add_with_carry(x, y, false), regs),
         DataName::Adc => put_data_sum(s, d, add_with_carry(x, y, c), regs),
         DataName::Sbc => put_data_sum(s, d, add_with_carry(x, !y, c), regs),

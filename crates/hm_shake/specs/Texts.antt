@@ -5,11 +5,11 @@ use Rattle.hm_shake.specs.Kinds.{kind_text}
 use Rattle.hm_shake_runs.specs.declared.found.Found.{Found}
 use Rattle.hm_shake_runs.specs.declared.kinds.Kind.{Kind}
 
--- plain KIND
+-- the line of the plain run, `plain KIND`
 abbrev pub plain_line : Kind → List ℕ → List ℕ
 plain_line k out = kind_text k (out ++ codes "plain ") ++ codes "\n"
 
--- KIND: COUNT
+-- the line of a kind and how often it came, `KIND: COUNT`
 abbrev pub count_line : Found → List ℕ → List ℕ
 count_line x out = kind_text x.kind out ++ codes ": " ++ decimal x.count ++ codes "\n"
 

@@ -17,7 +17,7 @@ r n = word (register_name n)
 abbrev pub or_zero : ℕ → Tok
 or_zero n = word (cond (nat_eq n 15) (codes "zr") (register_name n))
 
--- `#n`
+-- a constant as an operand, `#n`
 abbrev pub constant : ℕ → List Tok
 constant n = hash_mark ∷ number n ∷ []
 
@@ -67,15 +67,15 @@ minus a = cond (nat_eq a 0) (minus_mark ∷ []) []
 abbrev pub back : ℕ → List Tok
 back w = cond (nat_eq w 0) [] (bang ∷ [])
 
--- `,#n`
+-- the offset of an address, `,#n`
 abbrev pub offset : ℕ → ℕ → List Tok
 offset a n = comma ∷ hash_mark ∷ (minus a ++ number n ∷ [])
 
--- `[base,#n]`, `[base,#n]!`, and where the offset goes to the base alone `[base],#n`
+-- an address with its offset in the brackets: `[base,#n]`, and `[base,#n]!` where it is written back
 abbrev pub inside : ℕ → ℕ → Tok → ℕ → List Tok
 inside a w base n = open_bracket ∷ base ∷ (offset a n ++ close_bracket ∷ back w)
 
--- `[base],#n`
+-- an address whose offset goes to the base alone, `[base],#n`
 abbrev pub outside : ℕ → Tok → ℕ → List Tok
 outside a base n = open_bracket ∷ base ∷ close_bracket ∷ offset a n
 
@@ -83,7 +83,7 @@ outside a base n = open_bracket ∷ base ∷ close_bracket ∷ offset a n
 abbrev pub indexed : ℕ → ℕ → ℕ → Tok → ℕ → List Tok
 indexed p a w base n = cond (nat_eq p 0) (outside a base n) (inside a w base n)
 
--- `[rn,rm,lsl #k]`
+-- an address with a register that is shifted, `[rn,rm,lsl #k]`
 abbrev pub scaled : ℕ → ℕ → ℕ → List Tok
 scaled n m k = open_bracket ∷ r n ∷ comma ∷ r m ∷ comma ∷ word (codes "lsl") ∷ hash_mark ∷ number k ∷ close_bracket ∷ []
 

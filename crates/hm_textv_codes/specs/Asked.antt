@@ -35,7 +35,7 @@ abbrev pub long_mnemonic : ℕ → ℕ → List ℕ
 long_mnemonic t k = cond (nat_eq k 0) (long_move_mnemonic t) (long_shift_mnemonic t)
 
 -- V15: VMOV, VMVN, VORR and VBIC as 0 to 3, by op and cm: an odd cm below 12 is of those that merge, and 14 is of VMOV alone
--- (DDI0553, "VMOV (immediate)", "VMVN (immediate)", "VORR (immediate)" and "VBIC (immediate)")
+-- (DDI0553, "VMOV (immediate) (vector)", "VMVN (immediate)", "VORR (immediate)" and "VBIC (immediate)")
 abbrev pub constant_number : ℕ → ℕ → ℕ
 constant_number op cm = if nat_lt cm 12 then cm % 2 * 2 + op else (if nat_lt cm 14 then op else 0)
 
@@ -126,7 +126,7 @@ abbrev pub long_given : ℕ → ℕ → ℕ → ℕ → ℕ → Operands
 long_given u z d m k = given false u z (if nat_eq k 0 then kinds.Missing else kinds.Number) d m k 0
 
 -- V15: the operands by op and cm: the size of the element, and how the immediate x is shifted in it: 0 brings in zeros, and 1 brings in ones
--- (DDI0553, "VMOV (immediate)", "VMVN (immediate)", "VORR (immediate)" and "VBIC (immediate)")
+-- (DDI0553, "VMOV (immediate) (vector)", "VMVN (immediate)", "VORR (immediate)" and "VBIC (immediate)")
 abbrev pub constant_given : ℕ → ℕ → ℕ → ℕ → Operands
 constant_given op cm d x =
     if nat_lt cm 8 then given false 0 2 kinds.Word d x 0 (cm / 2 * 8)
@@ -139,7 +139,7 @@ abbrev pub narrowing_sign : NarrowingName → ℕ
 narrowing_sign narrowing.Unsigned = 1
 narrowing_sign name = 0
 
--- V20: 1 where the condition is of unsigned numbers, cs and hi (DDI0553, "VCMP" and "VPT")
+-- V20: 1 where the condition is of unsigned numbers, cs and hi (DDI0553, "VCMP (vector)" and "VPT")
 abbrev pub compare_sign : ℕ → ℕ
 compare_sign c = get_or (0 ∷ 0 ∷ 1 ∷ 1 ∷ 0 ∷ 0 ∷ 0 ∷ 0 ∷ []) c 0
 
@@ -207,7 +207,7 @@ operands_of (vector.V28 i) = interleaved_given i.f.value i.z.value i.w.value i.d
 abbrev pub Asks : Vector → List ℕ → Operands → Type 0
 Asks v s o = (s ≡ mnemonic_of v) × (o ≡ operands_of v)
 
--- a mnemonic and operands are those of a row's other text: VMOV for VORR of a register with itself, VMLAV and VMLAVA for VMLADAV and VMLADAVA
+-- V2 and V22: a mnemonic and operands are those of a row's other text: VMOV for VORR of a register with itself, VMLAV and VMLAVA for VMLADAV and VMLADAVA
 -- (DDI0553, "VORR" and "VMLADAV")
 abbrev pub AsksOther : Vector → List ℕ → Operands → Type 0
 AsksOther (vector.V2 i) s o =
@@ -223,7 +223,8 @@ IsCodeOf {A} row s o code = (i : A) → Asks (row i) s o → code ≡ Some (vect
 abbrev pub IsOtherCodeOf : {A : Type 0} → (A → Vector) → List ℕ → Operands → Option ℕ → Type 0
 IsOtherCodeOf {A} row s o code = (i : A) → AsksOther (row i) s o → code ≡ Some (vector_code (row i))
 
--- V15: the number of a mnemonic and operands are those of this row (DDI0553, "VMOV (immediate)", "VMVN (immediate)", "VORR (immediate)" and "VBIC (immediate)")
+-- V15: the number of a mnemonic and operands are those of this row
+-- (DDI0553, "VMOV (immediate) (vector)", "VMVN (immediate)", "VORR (immediate)" and "VBIC (immediate)")
 abbrev pub AsksConstant : V15 → ℕ → Operands → Type 0
 AsksConstant i k o = (k ≡ constant_number i.op.value i.cm.value) × (o ≡ operands_of (vector.V15 i))
 

@@ -79,7 +79,7 @@ abbrev pub constant_shift_names : List ConstantShiftName
 constant_shift_names =
     by_constant.Shr ∷ by_constant.Rshr ∷ by_constant.Qshl ∷ by_constant.Qshlu ∷ by_constant.Shl ∷ by_constant.Sri ∷ by_constant.Sli ∷ []
 
--- V13: VCLS, VCLZ, VABS, VNEG, VQABS and VQNEG (DDI0553, "VCLS", "VCLZ", "VABS", "VNEG", "VQABS" and "VQNEG")
+-- V13: VCLS, VCLZ, VABS, VNEG, VQABS and VQNEG (DDI0553, "VCLS", "VCLZ", "VABS (vector)", "VNEG (vector)", "VQABS" and "VQNEG")
 abbrev pub one_names : List OneName
 one_names = one.Cls ∷ one.Clz ∷ one.Abs ∷ one.Neg ∷ one.Qabs ∷ one.Qneg ∷ []
 
@@ -95,16 +95,17 @@ offsets_names = offsets.Up ∷ offsets.Down ∷ []
 abbrev pub extreme_names : List ExtremeName
 extreme_names = extreme.Max ∷ extreme.Min ∷ []
 
--- V20 and V21: the masks of a block, and 0, which VCMP and VPNOT have (DDI0553, "VCMP", "VPT", "VPST" and "VPNOT")
+-- V20 and V21: the masks of a block, and 0, which VCMP and VPNOT have (DDI0553, "VCMP (vector)", "VPT", "VPST" and "VPNOT")
 abbrev pub masks : List ℕ
 masks = 0 ∷ block_masks
 
 -- V15: the mnemonics of 0 to 3, VMOV, VMVN, VORR and VBIC: bit 0 is 1 for VMVN and VBIC, and bit 1 is 1 where the immediate is merged
--- (DDI0553, "VMOV (immediate)", "VMVN (immediate)", "VORR (immediate)" and "VBIC (immediate)")
+-- (DDI0553, "VMOV (immediate) (vector)", "VMVN (immediate)", "VORR (immediate)" and "VBIC (immediate)")
 abbrev pub constant_mnemonic : ℕ → List ℕ
 constant_mnemonic k = either (k / 2) (constant_move_mnemonic (k % 2)) (constant_merge_mnemonic (k % 2))
 
--- V15: VMOV, VMVN, VORR and VBIC as 0 to 3, by the mnemonic (DDI0553, "VMOV (immediate)", "VMVN (immediate)", "VORR (immediate)" and "VBIC (immediate)")
+-- V15: VMOV, VMVN, VORR and VBIC as 0 to 3, by the mnemonic
+-- (DDI0553, "VMOV (immediate) (vector)", "VMVN (immediate)", "VORR (immediate)" and "VBIC (immediate)")
 abbrev pub constant_in : List ℕ → Option ℕ
 constant_in s = named constant_mnemonic (0 ∷ 1 ∷ 2 ∷ 3 ∷ []) s
 

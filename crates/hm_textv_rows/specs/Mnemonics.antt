@@ -152,7 +152,7 @@ long_shift_mnemonic t = either t (codes "vshllb") (codes "vshllt")
 abbrev pub long_move_mnemonic : ℕ → List ℕ
 long_move_mnemonic t = either t (codes "vmovlb") (codes "vmovlt")
 
--- V13: the mnemonic of each name, VCLS, VCLZ, VABS, VNEG, VQABS and VQNEG (DDI0553, "VCLS", "VCLZ", "VABS", "VNEG", "VQABS" and "VQNEG")
+-- V13: the mnemonic of each name, VCLS, VCLZ, VABS, VNEG, VQABS and VQNEG (DDI0553, "VCLS", "VCLZ", "VABS (vector)", "VNEG (vector)", "VQABS" and "VQNEG")
 abbrev pub one_mnemonic : OneName → List ℕ
 one_mnemonic one.Cls = codes "vcls"
 one_mnemonic one.Clz = codes "vclz"
@@ -167,7 +167,7 @@ reverse_mnemonic reverse_.Rev64 = codes "vrev64"
 reverse_mnemonic reverse_.Rev32 = codes "vrev32"
 reverse_mnemonic reverse_.Rev16 = codes "vrev16"
 
--- V15: VMOV, or VMVN where op is 1, but for elements of 64 bits (DDI0553, "VMOV (immediate)" and "VMVN (immediate)")
+-- V15: VMOV, or VMVN where op is 1, but for elements of 64 bits (DDI0553, "VMOV (immediate) (vector)" and "VMVN (immediate)")
 abbrev pub constant_move_mnemonic : ℕ → List ℕ
 constant_move_mnemonic op = either op (codes "vmov") (codes "vmvn")
 
@@ -266,7 +266,7 @@ constant_shift_suffix by_constant.Sri u z = element_suffix z
 constant_shift_suffix by_constant.Sli u z = element_suffix z
 constant_shift_suffix name u z = by_sign u z
 
--- V13: VCLZ is of integers, and the others of signed ones (DDI0553, "VCLS", "VCLZ", "VABS", "VNEG", "VQABS" and "VQNEG")
+-- V13: VCLZ is of integers, and the others of signed ones (DDI0553, "VCLS", "VCLZ", "VABS (vector)", "VNEG (vector)", "VQABS" and "VQNEG")
 abbrev pub one_suffix : OneName → ℕ → List ℕ
 one_suffix one.Clz z = integer z
 one_suffix name z = signed z
@@ -283,11 +283,11 @@ narrowing_suffix narrowing.Unsigned z = unsigned (z + 1)
 abbrev pub access_suffix : ℕ → ℕ → ℕ → List ℕ
 access_suffix l u z = either l (element_suffix z) (by_sign u z)
 
--- V20: by the condition, eq and ne are of integers, cs and hi of unsigned numbers, and ge, lt, gt and le of signed ones (DDI0553, "VCMP" and "VPT")
+-- V20: by the condition, eq and ne are of integers, cs and hi of unsigned numbers, and ge, lt, gt and le of signed ones (DDI0553, "VCMP (vector)" and "VPT")
 abbrev pub compare_suffix : ℕ → ℕ → List ℕ
 compare_suffix c z = get_or (integer z ∷ integer z ∷ unsigned z ∷ unsigned z ∷ signed z ∷ signed z ∷ signed z ∷ signed z ∷ []) c []
 
--- V20: the condition of VCMP and VPT (DDI0553, "VCMP" and "VPT")
+-- V20: the condition of VCMP and VPT (DDI0553, "VCMP (vector)" and "VPT")
 abbrev pub compare_condition : ℕ → List ℕ
 compare_condition c = get_or (codes "eq" ∷ codes "ne" ∷ codes "cs" ∷ codes "hi" ∷ codes "ge" ∷ codes "lt" ∷ codes "gt" ∷ codes "le" ∷ []) c []
 
@@ -299,7 +299,7 @@ block_letters mask = get_or
     ∷ codes "" ∷ codes "eee" ∷ codes "ee" ∷ codes "eet" ∷ codes "e" ∷ codes "ett" ∷ codes "et" ∷ codes "ete" ∷ [])
     mask []
 
--- V20: VCMP where the mask is 0, else VPT (DDI0553, "VCMP" and "VPT")
+-- V20: VCMP where the mask is 0, else VPT (DDI0553, "VCMP (vector)" and "VPT")
 abbrev pub compare_word : ℕ → List ℕ
 compare_word mask = cond (nat_eq mask 0) (codes "vcmp") (codes "vpt")
 

@@ -58,22 +58,22 @@ long_tokens (v12.Full i) = and_constant (two (long_shift_mnemonic i.t.value ++ b
     (8 * 2 ^ i.z.value)
 
 -- V13: the tokens of VCLS, VCLZ, VABS, VNEG, VQABS and VQNEG, and of VMVN of a vector
--- (DDI0553, "VCLS", "VCLZ", "VABS", "VNEG", "VQABS", "VQNEG" and "VMVN (register)")
+-- (DDI0553, "VCLS", "VCLZ", "VABS (vector)", "VNEG (vector)", "VQABS", "VQNEG" and "VMVN (register)")
 abbrev pub one_tokens : OneRow → List Tok
 one_tokens (v13.Elements i) = two (one_mnemonic i.name ++ one_suffix i.name i.z.value) (q i.d.value) (q i.m.value)
 one_tokens (v13.Not i) = two (codes "vmvn") (q i.d.value) (q i.m.value)
 
--- V15: the tokens of an immediate, `#x` (DDI0553, "VMOV (immediate)", "VMVN (immediate)", "VORR (immediate)" and "VBIC (immediate)")
+-- V15: the tokens of an immediate, `#x` (DDI0553, "VMOV (immediate) (vector)", "VMVN (immediate)", "VORR (immediate)" and "VBIC (immediate)")
 abbrev pub unshifted : List ℕ → ℕ → ℕ → List Tok
 unshifted name d x = and_constant (one name (q d)) x
 
 -- V15: the tokens of an immediate and how far it is shifted, `#x,lsl #n`
--- (DDI0553, "VMOV (immediate)", "VMVN (immediate)", "VORR (immediate)" and "VBIC (immediate)")
+-- (DDI0553, "VMOV (immediate) (vector)", "VMVN (immediate)", "VORR (immediate)" and "VBIC (immediate)")
 abbrev pub shifted : List ℕ → List ℕ → ℕ → ℕ → ℕ → List Tok
 shifted name kind n d x = and_any_shift (unshifted name d x) kind n
 
 -- V15: the tokens by cm: the element, where the immediate stands in it, and by op one of two operations
--- (DDI0553, "VMOV (immediate)", "VMVN (immediate)", "VORR (immediate)" and "VBIC (immediate)")
+-- (DDI0553, "VMOV (immediate) (vector)", "VMVN (immediate)", "VORR (immediate)" and "VBIC (immediate)")
 abbrev pub constant_forms : ℕ → ℕ → ℕ → List (List Tok)
 constant_forms op d x =
     shifted (constant_move_mnemonic op ++ codes ".i32") (codes "lsl") 0 d x
@@ -93,7 +93,8 @@ constant_forms op d x =
     ∷ unshifted (codes "vmov" ++ either op (codes ".i8") (codes ".i64")) d x
     ∷ []
 
--- V15: the tokens of VMOV, VMVN, VORR and VBIC with an immediate (DDI0553, "VMOV (immediate)", "VMVN (immediate)", "VORR (immediate)" and "VBIC (immediate)")
+-- V15: the tokens of VMOV, VMVN, VORR and VBIC with an immediate
+-- (DDI0553, "VMOV (immediate) (vector)", "VMVN (immediate)", "VORR (immediate)" and "VBIC (immediate)")
 abbrev pub constant_tokens : ConstantRow → List Tok
 constant_tokens i = get_or (constant_forms i.op.value i.d.value (imm8 i.i.value i.i3.value i.i4.value)) i.cm.value []
 
@@ -103,11 +104,11 @@ offsets_tokens (v19.Free i) = and_constant (two (offsets_mnemonic i.name ++ unsi
 offsets_tokens (v19.Wrapped i) =
     and_constant (three (wrapped_mnemonic i.name ++ unsigned i.z.value) (q i.d.value) (r (2 * i.n.value)) (r (2 * i.r.value + 1))) (2 ^ i.k.value)
 
--- V20: the first word: VCMP, or VPT and the letters of its block, and the suffix (DDI0553, "VCMP" and "VPT")
+-- V20: the first word: VCMP, or VPT and the letters of its block, and the suffix (DDI0553, "VCMP (vector)" and "VPT")
 abbrev pub compare_first_word : ℕ → ℕ → ℕ → List ℕ
 compare_first_word k c z = compare_word k ++ (block_letters k ++ compare_suffix c z)
 
--- V20: the tokens of VCMP and VPT, with a vector or a core register behind the first vector (DDI0553, "VCMP" and "VPT")
+-- V20: the tokens of VCMP and VPT, with a vector or a core register behind the first vector (DDI0553, "VCMP (vector)" and "VPT")
 abbrev pub compare_tokens : CompareRow → List Tok
 compare_tokens (v20.Vectors i) = three (compare_first_word i.k.value i.c.value i.z.value) (word (compare_condition i.c.value)) (q i.n.value) (q i.m.value)
 compare_tokens (v20.Scalar i) = three (compare_first_word i.k.value i.c.value i.z.value) (word (compare_condition i.c.value)) (q i.n.value) (or_zero i.m.value)

@@ -24,7 +24,7 @@ use Rattle.hm_thumb.specs.declared.arithmetic.Sum.{Sum}
 use Rattle.hm_isa.specs.declared.words.Shifted.{Shifted}
 
 -- THE SECOND OPERAND
--- RRX_C(x, carry) (DDI0553, "RRX_C")
+-- RRX_C(x, carry): a shift to the right by one, with the carry above and the bit that goes out (DDI0553, "RRX_C")
 abbrev pub rrx_c : ℕ → Bool → Shifted
 rrx_c x carry = record { result = x / 2 + cond carry (2 ^ 31) 0; carry = bit_is_set x 0 }
 
@@ -38,8 +38,8 @@ abbrev pub put_if : ℕ → ℕ → Regs → Regs
 put_if d x r = cond (nat_eq d 15) r (put d x r)
 
 -- register d, if there is one, gets a result; with s the flags N, Z and C tell it, in an IT block too
-abbrev pub put_bits : ℕ → ℕ → ℕ → Bool → Regs → Regs
-put_bits s d x carry r = let t = put_if d x r in cond (nat_eq s 1) (with_nzc (record { result = x; carry = carry }) t) t
+abbrev pub put_logical : ℕ → ℕ → ℕ → Bool → Regs → Regs
+put_logical s d x carry r = let t = put_if d x r in cond (nat_eq s 1) (with_nzc (record { result = x; carry = carry }) t) t
 
 -- register d, if there is one, gets a sum; with s the flags N, Z, C and V tell it, in an IT block too
 abbrev pub put_data_sum : ℕ → ℕ → Sum → Regs → Regs
@@ -48,11 +48,11 @@ put_data_sum s d x r = let t = put_if d x.result r in cond (nat_eq s 1) (with_nz
 -- T1 and T2: AND to RSB with s, d, the first operand and the second, whose carry is what the flags of bits get
 -- (DDI0553, "Data-processing (modified immediate)" and "Data-processing (shifted register)")
 abbrev pub data_row : DataName → ℕ → ℕ → ℕ → Shifted → Regs → Regs
-data_row data_.And s d x y r = put_bits s d (bit_and x y.result) y.carry r
-data_row data_.Bic s d x y r = put_bits s d (bit_and x (inverted y.result)) y.carry r
-data_row data_.Orr s d x y r = put_bits s d (bit_or x y.result) y.carry r
-data_row data_.Orn s d x y r = put_bits s d (bit_or x (inverted y.result)) y.carry r
-data_row data_.Eor s d x y r = put_bits s d (bit_xor x y.result) y.carry r
+data_row data_.And s d x y r = put_logical s d (bit_and x y.result) y.carry r
+data_row data_.Bic s d x y r = put_logical s d (bit_and x (inverted y.result)) y.carry r
+data_row data_.Orr s d x y r = put_logical s d (bit_or x y.result) y.carry r
+data_row data_.Orn s d x y r = put_logical s d (bit_or x (inverted y.result)) y.carry r
+data_row data_.Eor s d x y r = put_logical s d (bit_xor x y.result) y.carry r
 data_row data_.Add s d x y r = put_data_sum s d (add_with_carry x y.result false) r
 data_row data_.Adc s d x y r = put_data_sum s d (add_with_carry x y.result r.c) r
 data_row data_.Sbc s d x y r = put_data_sum s d (add_with_carry x (inverted y.result) r.c) r
