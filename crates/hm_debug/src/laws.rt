@@ -21,7 +21,7 @@ pub fn script_law()
     ensures not_both { (text : List ℕ) (cs : List Command) (e : ScriptErr) → IsScript text cs → ¬ (ScriptRefuses text e) }
 {}
 
-/// A script has one text of answers on each run, and a longer script's answers begin with those of the shorter.
+/// A script has one text of answers on each run, and that of a script that begins with another one begins with that one's.
 pub fn answer_law()
     ensures some { (f : Film) (text : List ℕ) (cs : List Command) → IsScript text cs → (x : List ℕ) × IsAnswered f text x }
     ensures one { (f : Film) (text x y : List ℕ) → IsAnswered f text x → IsAnswered f text y → x ≡ y }

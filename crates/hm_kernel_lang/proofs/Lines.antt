@@ -27,7 +27,7 @@ some_round : (t : ElementType) (r : ℕ) → 0 < r → 0 ≡ rounds t r → ⊥
 some_round t r h e = ⊎_elim (λ lt. let g = one_round t r lt in absurd (omega arith)) (λ le. let g = last_round t r h le in absurd (omega arith))
     (cases_lt (lanes t) r)
 
--- ONE TURN
+-- ONE ROUND
 module _ (t : ElementType) (at : ℕ → ℕ) (n : ℕ) (l : Line) (fine : IsLine t at n l) (m : Bytes) where
   -- the values that the line gives
   abbrev f : ℕ → ℕ
