@@ -65,7 +65,7 @@ abbrev pub lanes_new : Lanes → List ℕ → ℕ
 lanes_new l (old ∷ x ∷ ys) = word_of (lanewise3 l.z (lane_of l.f l.unsigned l.z) (bytes_of old) (bytes_of x) (bytes_of (operand_of l.z l.by ys)))
 lanes_new l _ = 0
 
--- V3 to V5, V10, V11 and V13: whether an active lane of a word saturates (DDI0553, as "VQADD", "VQSHL" and "VQABS")
+-- V3 to V5, V10, V11 and V13: whether an active lane of a word saturates (DDI0553, as "VQADD", "VQSHL, VQSHLU" and "VQABS")
 abbrev pub lanes_mark : Lanes → List Bool → List ℕ → Bool
 lanes_mark l active (old ∷ x ∷ ys) =
     any_both active (lane_tests3 l.z (lane_saturates l.f l.unsigned l.z) (bytes_of old) (bytes_of x) (bytes_of (operand_of l.z l.by ys)))

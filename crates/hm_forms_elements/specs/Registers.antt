@@ -40,7 +40,7 @@ words_at q s = at (word_place q 0) s ∷ at (word_place q 1) s ∷ at (word_plac
 abbrev pub lanes_result : Lanes → State → List ℕ
 lanes_result l s = lanewise3 l.z (lane_of l.f l.unsigned l.z) (register_at l.d.value s) (register_at l.n.value s) (operand_register l.z l.by s)
 
--- V3 to V5, V10, V11 and V13: where lanes saturate, at the lowest byte of each (DDI0553, as "VQADD", "VQSHL" and "VQABS")
+-- V3 to V5, V10, V11 and V13: where lanes saturate, at the lowest byte of each (DDI0553, as "VQADD", "VQSHL, VQSHLU" and "VQABS")
 abbrev pub lanes_saturated : Lanes → State → List Bool
 lanes_saturated l s = lane_tests3 l.z (lane_saturates l.f l.unsigned l.z) (register_at l.d.value s) (register_at l.n.value s) (operand_register l.z l.by s)
 

@@ -53,8 +53,8 @@ module _ (r : Regs) where
   put_if-same : (d x : ℕ) (q : Regs) → Same r q → Same r (put_if d x q)
   put_if-same d x q h = either (Same r) _ _ _ h h
 
-  bits-same : (s d x : ℕ) (c : Bool) (q : Regs) → Same r q → Same r (put_logical s d x c q)
-  bits-same s d x c q h = let k = put_if-same d x q h in either (Same r) _ _ _ k k
+  logical-same : (s d x : ℕ) (c : Bool) (q : Regs) → Same r q → Same r (put_logical s d x c q)
+  logical-same s d x c q h = let k = put_if-same d x q h in either (Same r) _ _ _ k k
 
   data_sum-same : (s d : ℕ) (x : Sum) (q : Regs) → Same r q → Same r (put_data_sum s d x q)
   data_sum-same s d x q h = let k = put_if-same d x.result q h in either (Same r) _ _ _ k k
@@ -65,7 +65,7 @@ module _ (r : Regs) where
   data-same data_.Sbc s d x y q h = data_sum-same s d _ q h
   data-same data_.Sub s d x y q h = data_sum-same s d _ q h
   data-same data_.Rsb s d x y q h = data_sum-same s d _ q h
-  data-same name s d x y q h = bits-same s d _ _ q h
+  data-same name s d x y q h = logical-same s d _ _ q h
 
   -- products
   pub product-same : (i : T11) (q : Regs) → Same r q → Same r (t11 i q)

@@ -20,7 +20,7 @@ fn put_if(d: u32, x: u32, regs: &mut Regs)
     }
 }
 
-/// Puts bits into register `d`; with `s` N, Z and C tell them.
+/// Puts the result of a logical operation into register `d`; with `s` N, Z and C tell it.
 fn put_logical(s: u32, d: u32, x: u32, carry: bool, regs: &mut Regs)
     requires { d < 16 }
     ensures regs { regs.new ≡ put_logical s d x carry regs.old }

@@ -37,7 +37,7 @@ imm_shift_c ty k x carry = if is_by_carry ty k then rrx_c x carry else shift_c (
 abbrev pub put_if : ℕ → ℕ → Regs → Regs
 put_if d x r = cond (nat_eq d 15) r (put d x r)
 
--- register d, if there is one, gets a result; with s the flags N, Z and C tell it, in an IT block too
+-- register d, if there is one, gets the result of a logical operation; with s the flags N, Z and C tell it, in an IT block too
 abbrev pub put_logical : ℕ → ℕ → ℕ → Bool → Regs → Regs
 put_logical s d x carry r = let t = put_if d x r in cond (nat_eq s 1) (with_nzc (record { result = x; carry = carry }) t) t
 
@@ -45,7 +45,7 @@ put_logical s d x carry r = let t = put_if d x r in cond (nat_eq s 1) (with_nzc 
 abbrev pub put_data_sum : ℕ → ℕ → Sum → Regs → Regs
 put_data_sum s d x r = let t = put_if d x.result r in cond (nat_eq s 1) (with_nzcv x t) t
 
--- T1 and T2: AND to RSB with s, d, the first operand and the second, whose carry is what the flags of bits get
+-- T1 and T2: AND to RSB with s, d, the first operand and the second, whose carry is what C gets of logical operations
 -- (DDI0553, "Data-processing (modified immediate)" and "Data-processing (shifted register)")
 abbrev pub data_row : DataName → ℕ → ℕ → ℕ → Shifted → Regs → Regs
 data_row data_.And s d x y r = put_logical s d (bit_and x y.result) y.carry r
