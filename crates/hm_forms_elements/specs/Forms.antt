@@ -59,20 +59,18 @@ words_row always_slice d sources f mark = record {
 }
 
 -- LANES OF TWO OPERANDS AND OF THE OLD WORD
--- V1 to V5, V7, V10, V11, V13 and V18: the new word of a row of lanes: its function, lane by lane, of the old word and of two operands
--- (DDI0553, as "VADD (vector)", "VAND", "VSHL", "VSHR" and "VDUP")
+-- the new word of a row of lanes: its function, lane by lane, of the old word and of two operands
 abbrev pub lanes_new : Lanes → List ℕ → ℕ
 lanes_new l (old ∷ x ∷ ys) = word_of (lanewise3 l.z (lane_of l.f l.unsigned l.z) (bytes_of old) (bytes_of x) (bytes_of (operand_of l.z l.by ys)))
 lanes_new l _ = 0
 
--- V3 to V5, V10, V11 and V13: whether an active lane of a word saturates (DDI0553, as "VQADD", "VQSHL, VQSHLU" and "VQABS")
+-- whether an active lane of a word saturates
 abbrev pub lanes_mark : Lanes → List Bool → List ℕ → Bool
 lanes_mark l active (old ∷ x ∷ ys) =
     any_both active (lane_tests3 l.z (lane_saturates l.f l.unsigned l.z) (bytes_of old) (bytes_of x) (bytes_of (operand_of l.z l.by ys)))
 lanes_mark l active _ = false
 
--- V1 to V5, V7, V10, V11, V13 and V18, as VADD, VAND, VSHL and VDUP: a function of lanes
--- (DDI0553, as "VADD (vector)", "VAND", "VSHL", "VSHR" and "VDUP")
+-- a row of lanes: on each beat a word is merged, and QC is set where its function can saturate and an active lane does
 abbrev pub lanes_row : Lanes → Row
 lanes_row l = words_row false l.d.value (λ b. word_place l.n.value b ∷ operand_places l.by b) (λ b slice. lanes_new l)
     (cond (saturates l.f) (Some (λ b. lanes_mark l)) None)

@@ -35,17 +35,15 @@ abbrev pub words_at : ℕ → State → List ℕ
 words_at q s = at (word_place q 0) s ∷ at (word_place q 1) s ∷ at (word_place q 2) s ∷ at (word_place q 3) s ∷ []
 
 -- LANES
--- V1 to V5, V7, V10, V11, V13 and V18, as VADD and VDUP: the 16 new bytes, lane by lane
--- (DDI0553, as "VADD (vector)", "VAND", "VSHL", "VSHR" and "VDUP")
+-- the 16 new bytes of a row of lanes, lane by lane
 abbrev pub lanes_result : Lanes → State → List ℕ
 lanes_result l s = lanewise3 l.z (lane_of l.f l.unsigned l.z) (register_at l.d.value s) (register_at l.n.value s) (operand_register l.z l.by s)
 
--- V3 to V5, V10, V11 and V13: where lanes saturate, at the lowest byte of each (DDI0553, as "VQADD", "VQSHL, VQSHLU" and "VQABS")
+-- where lanes saturate, at the lowest byte of each
 abbrev pub lanes_saturated : Lanes → State → List Bool
 lanes_saturated l s = lane_tests3 l.z (lane_saturates l.f l.unsigned l.z) (register_at l.d.value s) (register_at l.n.value s) (operand_register l.z l.by s)
 
--- V1 to V5, V7, V10, V11, V13 and V18: the 16 bytes are merged, and QC is set where an active lane saturates
--- (DDI0553, as "VADD (vector)", "VAND", "VSHL", "VSHR" and "VDUP")
+-- a row of lanes: the 16 bytes are merged, and QC is set where an active lane saturates
 abbrev pub lanes_whole : Lanes → State → State
 lanes_whole l s = saturating (saturates l.f && any_both (predicate_at s) (lanes_saturated l s)) (merges l.d.value (lanes_result l s) s) s
 

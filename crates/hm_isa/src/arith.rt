@@ -6,7 +6,8 @@ ghost use Rattle.hm_isa.specs.Rules.{are_general, is_accumulated, is_chosen, is_
 use crate::fields::{Below, Bit, Register};
 use crate::narrow::ExtendName;
 
-/// The operation of the row T8, in the order of its codes.
+/// The operation of the row T8, in the order of its codes: DDI0553, "LSL (register)", "LSR (register)", "ASR (register)" and "ROR
+/// (register)".
 #[derive(Clone, Copy)]
 pub enum WideShiftName {
     Lsl,
@@ -41,7 +42,7 @@ pub struct T9 {
     pub ghost rules: { IsTrue (are_general d.value m.value) },
 }
 
-/// The operation of the row T10.
+/// The operation of the row T10: DDI0553, "REV", "REV16", "REVSH", "RBIT" and "CLZ".
 #[derive(Clone, Copy)]
 pub enum BitsName {
     Rev,
@@ -60,7 +61,7 @@ pub struct T10 {
     pub ghost rules: { IsTrue (are_general d.value m.value) },
 }
 
-/// An operation of the row T11 on two registers.
+/// An operation of the row T11 on two registers: DDI0553, "MUL", "SDIV" and "UDIV".
 #[derive(Clone, Copy)]
 pub enum OperationName {
     Mul,
@@ -78,7 +79,7 @@ pub struct Operation {
     pub ghost rules: { IsTrue (is_operation n.value d.value m.value) },
 }
 
-/// Whether a product of the row T11 is added or taken off.
+/// Whether a product of the row T11 is added or taken off: DDI0553, "MLA" and "MLS".
 #[derive(Clone, Copy)]
 pub enum AccumulateName {
     Mla,
@@ -97,7 +98,7 @@ pub struct Accumulate {
     pub ghost rules: { IsTrue (is_accumulated n.value a.value d.value m.value) },
 }
 
-/// A product of 64 bits of the row T11, alone or added.
+/// A product of 64 bits of the row T11, alone or added: DDI0553, "SMULL", "UMULL", "SMLAL" and "UMLAL".
 #[derive(Clone, Copy)]
 pub enum LongProductName {
     Smull,
@@ -128,7 +129,7 @@ pub enum T11 {
     Long(LongProduct),
 }
 
-/// The operation of the row T20, in the order of its codes.
+/// The operation of the row T20, in the order of its codes: DDI0553, "CSEL", "CSINC", "CSINV" and "CSNEG".
 #[derive(Clone, Copy)]
 pub enum SelectName {
     Csel,

@@ -7,7 +7,7 @@ ghost use Rattle.hm_isa.specs.Rules.{is_general};
 use crate::fields::{Below, Bit, Byte, Register};
 use crate::narrow::SumName;
 
-/// The operation of the rows T1 and T2.
+/// The operation of the rows T1 and T2: DDI0553, "Data-processing (modified immediate)" and "Data-processing (shifted register)".
 #[derive(Clone, Copy)]
 pub enum DataName {
     /// `and`, and `tst`
@@ -32,9 +32,10 @@ pub enum DataName {
     Rsb,
 }
 
-/// `and.w rd,rn,#c` and so on, where `i`, `i3` and `i8` stand for the constant: DDI0553, "Data-processing (modified immediate)".
+/// `and.w`, `bic.w`, `orr.w`, `orn.w`, `eor.w`, `add.w`, `adc.w`, `sbc.w`, `sub.w`, `rsb.w rd,rn,#c`, where `i`, `i3` and `i8` stand
+/// for the constant: DDI0553, "Data-processing (modified immediate)".
 ///
-/// With `s` and `d` 15 it is `tst.w`, `teq.w`, `cmn.w` or `cmp.w rn,#c`, and with `n` 15 it is `mov` or `mvn`.
+/// With `s` and `d` 15 it is `tst.w`, `teq.w`, `cmn.w` or `cmp.w rn,#c`, and with `n` 15 it is `mov.w` or `mvn.w`.
 #[derive(Clone, Copy)]
 pub struct T1 {
     pub name: DataName,
@@ -48,9 +49,11 @@ pub struct T1 {
     pub ghost rules: { IsTrue (is_constant_row name s.value n.value d.value i.value i3.value i8.value) },
 }
 
-/// `and.w rd,rn,rm,lsl #k` and so on, where `i3` and `i2` make k: DDI0553, "Data-processing (shifted register)".
+/// `and.w`, `bic.w`, `orr.w`, `orn.w`, `eor.w`, `add.w`, `adc.w`, `sbc.w`, `sub.w`, `rsb.w rd,rn,rm,lsl #k`, where `i3` and
+/// `i2` make k: DDI0553, "Data-processing (shifted register)".
 ///
-/// With `s` and `d` 15 it is `tst.w`, `teq.w`, `cmn.w` or `cmp.w rn,rm`, and with `n` 15 it is `mvn`, or `mov.w` and the shifts.
+/// With `s` and `d` 15 it is `tst.w`, `teq.w`, `cmn.w` or `cmp.w rn,rm`, and with `n` 15 it is `mvn.w`, `mov.w`, `lsl.w`, `lsr.w`,
+/// `asr.w`, `ror.w` or `rrx`.
 #[derive(Clone, Copy)]
 pub struct T2 {
     pub name: DataName,
@@ -79,7 +82,7 @@ pub struct T3 {
     pub ghost rules: { IsTrue (is_wide_sum n.value d.value) },
 }
 
-/// The operation of the row T4.
+/// The operation of the row T4: DDI0553, "MOV (immediate)" and "MOVT".
 #[derive(Clone, Copy)]
 pub enum HalfName {
     Movw,
@@ -98,14 +101,14 @@ pub struct T4 {
     pub ghost rules: { IsTrue (is_general d.value) },
 }
 
-/// The operation of the row T5.
+/// The operation of the row T5: DDI0553, "SSAT" and "USAT".
 #[derive(Clone, Copy)]
 pub enum SaturateName {
     Ssat,
     Usat,
 }
 
-/// `ssat rd,#s+1,rn,lsl #k`, `usat rd,#s,rn,lsl #k` and so on, where `i3` and `i2` make k: DDI0553, "SSAT" and "USAT".
+/// `ssat rd,#s+1,rn,lsl #k`, `usat rd,#s,rn,lsl #k`, or `asr` for `lsl`, where `i3` and `i2` make k: DDI0553, "SSAT" and "USAT".
 #[derive(Clone, Copy)]
 pub struct T5 {
     pub name: SaturateName,
@@ -119,7 +122,7 @@ pub struct T5 {
     pub ghost rules: { IsTrue (is_saturated sh.value n.value d.value i3.value i2.value) },
 }
 
-/// The operation of the row T6.
+/// The operation of the row T6: DDI0553, "SBFX" and "UBFX".
 #[derive(Clone, Copy)]
 pub enum ExtractName {
     Sbfx,

@@ -16,7 +16,7 @@ pub struct WideConditional {
     pub i11: Below<2048>,
 }
 
-/// The operation of a branch with no condition of the row T16.
+/// The operation of a branch with no condition of the row T16: DDI0553, "B" and "BL".
 #[derive(Clone, Copy)]
 pub enum WideBranchName {
     /// `b.w`
@@ -44,7 +44,7 @@ pub enum T16 {
     Always(WideAlways),
 }
 
-/// The operation of the row T17.
+/// The operation of the row T17: DDI0553, "TBB, TBH".
 #[derive(Clone, Copy)]
 pub enum TableName {
     /// `tbb`
@@ -100,7 +100,7 @@ pub struct Wlstp {
     pub ghost not_pc: { n.value ≢ 15 },
 }
 
-/// The operation of the row T23 at the end of a loop.
+/// The operation of the row T23 at the end of a loop: DDI0553, "LE, LETP".
 #[derive(Clone, Copy)]
 pub enum LoopEndName {
     /// `le lr,label`

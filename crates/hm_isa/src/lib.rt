@@ -237,9 +237,9 @@ pub enum Scalar {
     S20(S20),
     /// `it`
     S21(S21),
-    /// `and.w rd,rn,#c` and so on
+    /// `and.w` to `rsb.w rd,rn,#c`
     T1(T1),
-    /// `and.w rd,rn,rm,lsl #k` and so on
+    /// `and.w` to `rsb.w rd,rn,rm,lsl #k`
     T2(T2),
     /// `addw`, `subw`
     T3(T3),

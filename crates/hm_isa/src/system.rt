@@ -5,7 +5,7 @@ ghost use Rattle.hm_isa.specs.Rules.{is_system_move};
 
 use crate::fields::{Below, QRegister, Register};
 
-/// A special register that the row T18 reads.
+/// A special register that the row T18 reads: DDI0553, "MRS".
 #[derive(Clone, Copy)]
 pub enum ReadName {
     Apsr,
@@ -26,7 +26,7 @@ pub struct Mrs {
     pub ghost not_pc: { d.value ≢ 15 },
 }
 
-/// A special register that the row T18 writes.
+/// A special register that the row T18 writes: DDI0553, "MSR (register)".
 #[derive(Clone, Copy)]
 pub enum WrittenName {
     Apsr,
@@ -53,7 +53,7 @@ pub enum T18 {
     Write(Msr),
 }
 
-/// A barrier of the row T19, in the order of the codes.
+/// A barrier of the row T19, in the order of the codes: DDI0553, "DSB", "DMB" and "ISB".
 #[derive(Clone, Copy)]
 pub enum BarrierName {
     Dsb,
@@ -76,7 +76,7 @@ pub enum T19 {
     Barrier(Barrier),
 }
 
-/// The operation of the row T21.
+/// The operation of the row T21: DDI0553, "VMRS" and "VMSR".
 #[derive(Clone, Copy)]
 pub enum SystemMoveName {
     /// `vmrs rt,fpscr`, and with 15 as `t` `vmrs apsr_nzcv,fpscr`
@@ -101,7 +101,8 @@ pub struct T21 {
     pub ghost rules: { IsTrue (is_system_move name t.value) },
 }
 
-/// The operation of the row T22.
+/// The operation of the row T22: DDI0553, "VMOV (general-purpose register to vector lane)" and "VMOV (vector lane to
+/// general-purpose register)".
 #[derive(Clone, Copy)]
 pub enum LaneMoveName {
     /// `vmov.32 qd[x],rt`

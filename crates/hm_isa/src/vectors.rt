@@ -8,7 +8,8 @@ ghost use Rattle.hm_isa.specs.Rules.{has_size, is_reversed, is_shifted_by, is_si
 use crate::fields::{Below, Bit, ElementSize, QRegister, Register};
 use crate::words::zero_as_32;
 
-/// The size of elements, where it tells codes apart as a name does.
+/// The size of the elements of V18 and of a sum of products of V21, where it tells codes apart as a name does: DDI0553, "VDUP"
+/// and "VMLADAV".
 #[derive(Clone, Copy)]
 pub enum Element {
     /// 8 bits
@@ -19,7 +20,7 @@ pub enum Element {
     Words,
 }
 
-/// The operation of the row V1.
+/// The operation of the row V1: DDI0553, "VADD (vector)", "VSUB (vector)" and "VMUL (vector)".
 #[derive(Clone, Copy)]
 pub enum AddName {
     /// `vadd`
@@ -44,7 +45,7 @@ pub struct V1 {
     pub m: QRegister,
 }
 
-/// The operation of the row V2.
+/// The operation of the row V2: DDI0553, "VAND", "VBIC (register)", "VORR", "VORN" and "VEOR".
 #[derive(Clone, Copy)]
 pub enum BitwiseName {
     /// `vand`
@@ -71,7 +72,7 @@ pub struct V2 {
     pub m: QRegister,
 }
 
-/// The operation of the row V3.
+/// The operation of the row V3: DDI0553, "VMAX, VMAXA", "VMIN, VMINA", "VABD", "VHADD", "VRHADD", "VHSUB", "VQADD" and "VQSUB".
 #[derive(Clone, Copy)]
 pub enum SignedName {
     /// `vmax`
@@ -109,7 +110,7 @@ pub struct V3 {
     pub m: QRegister,
 }
 
-/// The operation of the row V4.
+/// The operation of the row V4: DDI0553, "VSHL", "VQSHL, VQSHLU", "VRSHL" and "VQRSHL".
 #[derive(Clone, Copy)]
 pub enum VectorShiftName {
     /// `vshl`
@@ -139,7 +140,7 @@ pub struct V4 {
     pub m: QRegister,
 }
 
-/// The operation of the row V5.
+/// The operation of the row V5: DDI0553, "VQDMULH, VQRDMULH (vector)".
 #[derive(Clone, Copy)]
 pub enum DoublingName {
     /// `vqdmulh`
@@ -180,7 +181,7 @@ pub struct V6 {
     pub ghost rule: { IsTrue (is_widened z.value d.value n.value m.value) },
 }
 
-/// The operation of the row V7.
+/// The operation of the row V7: DDI0553, "VMULH, VRMULH".
 #[derive(Clone, Copy)]
 pub enum HighName {
     /// `vmulh`
@@ -205,7 +206,7 @@ pub struct V7 {
     pub m: QRegister,
 }
 
-/// The operation of the row V8.
+/// The operation of the row V8: DDI0553, "VADC" and "VSBC".
 #[derive(Clone, Copy)]
 pub enum CarryName {
     /// `vadc`
@@ -230,7 +231,7 @@ pub struct V8 {
     pub m: QRegister,
 }
 
-/// The operation of the row V9.
+/// The operation of the row V9: DDI0553, "VCADD" and "VHCADD".
 #[derive(Clone, Copy)]
 pub enum ComplexSumName {
     /// `vcadd`
@@ -256,7 +257,8 @@ pub struct V9 {
     pub ghost rule: { IsTrue (is_complex_sum z.value d.value m.value) },
 }
 
-/// The operation of the row V10.
+/// The operation of the row V10: DDI0553, "VADD (vector)", "VSUB (vector)", "VMUL (vector)", "VHADD", "VHSUB", "VQADD", "VQSUB",
+/// "VQDMULH, VQRDMULH (vector)", "VMLA (vector by scalar plus vector)" and "VMLAS (vector by vector plus scalar)".
 #[derive(Clone, Copy)]
 pub enum ScalarName {
     /// `vadd`
@@ -305,7 +307,7 @@ pub struct V10 {
     pub ghost not_pc: { m.value ≢ 15 },
 }
 
-/// The operation of the row V11.
+/// The operation of the row V11: DDI0553, "VSHR", "VRSHR", "VQSHL, VQSHLU", "VSHL", "VSRI" and "VSLI".
 #[derive(Clone, Copy)]
 pub enum ConstantShiftName {
     /// `vshr`
@@ -345,7 +347,7 @@ pub struct V11 {
 }
 
 impl V11 {
-    /// The size of the elements, which the highest bit of `x` tells: DDI0553, "VSHR" and its kin.
+    /// The size of the elements, which the highest bit of `x` tells: DDI0553, "VSHR".
     pub fn element_size(&self) -> ElementSize
         ensures value { result.value ≡ constant_shift_size self.now.x.value }
     {
@@ -366,7 +368,7 @@ impl V11 {
         8 << self.element_size().get()
     }
 
-    /// By how many places it shifts, from 1 to 32 to the right and from 0 to 31 to the left: DDI0553, "VSHR" and its kin.
+    /// By how many places it shifts, from 1 to 32 to the right and from 0 to 31 to the left: DDI0553, "VSHR" and "VSHL".
     pub fn amount(&self) -> u32
         ensures value { result ≡ constant_shift_amount self.now.name self.now.x.value }
         ensures most { result ≤ 32 }
@@ -440,7 +442,7 @@ pub enum V12 {
     Full(LongFull),
 }
 
-/// The operation of the row V13 on elements.
+/// The operation of the row V13 on elements: DDI0553, "VCLS", "VCLZ", "VABS (vector)", "VNEG (vector)", "VQABS" and "VQNEG".
 #[derive(Clone, Copy)]
 pub enum OneName {
     /// `vcls`
@@ -486,7 +488,7 @@ pub enum V13 {
     Not(Invert),
 }
 
-/// The operation of the row V14.
+/// The operation of the row V14: DDI0553, "VREV64", "VREV32" and "VREV16".
 #[derive(Clone, Copy)]
 pub enum ReverseName {
     /// `vrev64`
@@ -532,7 +534,7 @@ pub struct V15 {
     pub i4: Below<16>,
 }
 
-/// The operation of the row V16.
+/// The operation of the row V16: DDI0553, "VMOVN", "VQMOVN" and "VQMOVUN".
 #[derive(Clone, Copy)]
 pub enum NarrowingName {
     /// `vmovn`
@@ -597,7 +599,7 @@ pub struct V18 {
     pub ghost not_pc: { t.value ≢ 15 },
 }
 
-/// Which way the offsets of the row V19 go.
+/// Which way the offsets of the row V19 go: DDI0553, "VIDUP, VIWDUP" and "VDDUP, VDWDUP".
 #[derive(Clone, Copy)]
 pub enum OffsetsName {
     /// `vidup`, `viwdup`
@@ -793,7 +795,7 @@ pub enum V22 {
     LongDot(LongDot),
 }
 
-/// The operation of the row V23.
+/// The operation of the row V23: DDI0553, "VMAXV, VMAXAV" and "VMINV, VMINAV".
 #[derive(Clone, Copy)]
 pub enum ExtremeName {
     /// `vmaxv`

@@ -6,7 +6,8 @@ ghost use Rattle.hm_isa.specs.Rules.{is_indexed, is_literal, is_offset, is_pair,
 use crate::fields::{Below, Bit, Byte, Register};
 use crate::narrow::AccessName;
 
-/// `strb.w rt,[rn,#i]` and so on. T12: DDI0553, "LDR (immediate)" and its kin.
+/// `strb.w`, `strh.w`, `str.w`, `ldrb.w`, `ldrh.w`, `ldr.w`, `ldrsb.w`, `ldrsh.w rt,[rn,#i]`. T12: DDI0553, the immediate form of each,
+/// as "LDR (immediate)".
 #[derive(Clone, Copy)]
 pub struct Offset {
     pub name: AccessName,
@@ -16,7 +17,8 @@ pub struct Offset {
     pub ghost rules: { IsTrue (is_offset name n.value t.value) },
 }
 
-/// `strb.w rt,[rn,#-i]`, `[rn,#i]!`, `[rn],#i` and so on, as p, u and w say. T12: DDI0553, "LDR (immediate)" and its kin.
+/// `strb.w`, `strh.w`, `str.w`, `ldrb.w`, `ldrh.w`, `ldr.w`, `ldrsb.w`, `ldrsh.w rt,[rn,#-i]`, or `[rn,#i]!`, `[rn],#i` and so
+/// with `#-i`, as p, u and w say. T12: DDI0553, the immediate form of each, as "LDR (immediate)".
 #[derive(Clone, Copy)]
 pub struct Indexed {
     pub name: AccessName,
@@ -32,7 +34,8 @@ pub struct Indexed {
     pub ghost rules: { IsTrue (is_indexed name n.value t.value p.value u.value w.value) },
 }
 
-/// `strb.w rt,[rn,rm,lsl #i]` and so on. T12: DDI0553, "LDR (register)" and its kin.
+/// `strb.w`, `strh.w`, `str.w`, `ldrb.w`, `ldrh.w`, `ldr.w`, `ldrsb.w`, `ldrsh.w rt,[rn,rm,lsl #i]`. T12: DDI0553, the register form
+/// of each, as "LDR (register)".
 #[derive(Clone, Copy)]
 pub struct Shifted {
     pub name: AccessName,
@@ -43,7 +46,8 @@ pub struct Shifted {
     pub ghost rules: { IsTrue (is_shifted name n.value t.value m.value) },
 }
 
-/// `ldrb.w rt,[pc,#i]` and so on, from pc rounded down to a word. T12: DDI0553, "LDR (literal)" and its kin.
+/// `ldrb.w`, `ldrh.w`, `ldr.w`, `ldrsb.w`, `ldrsh.w rt,[pc,#i]`, from pc rounded down to a word. T12: DDI0553, the literal form of
+/// each, as "LDR (literal)".
 #[derive(Clone, Copy)]
 pub struct Literal {
     pub name: AccessName,
@@ -54,8 +58,8 @@ pub struct Literal {
     pub ghost rules: { IsTrue (is_literal name t.value) },
 }
 
-/// A load or store of a byte, a halfword or a word: DDI0553, "LDR (immediate)", "LDR (literal)", "LDR (register)" and their
-/// kin, encodings T2 to T4.
+/// A load or store of a byte, a halfword or a word: DDI0553, the immediate, register and literal form of each, as "LDR (immediate)",
+/// "LDR (register)" and "LDR (literal)", encodings T1 to T4.
 #[derive(Clone, Copy)]
 pub enum T12 {
     Offset(Offset),
@@ -64,7 +68,7 @@ pub enum T12 {
     Literal(Literal),
 }
 
-/// The operation of the row T13.
+/// The operation of the row T13: DDI0553, "STRD (immediate)", "LDRD (immediate)" and "LDRD (literal)".
 #[derive(Clone, Copy)]
 pub enum PairName {
     Strd,
@@ -89,7 +93,8 @@ pub struct T13 {
     pub ghost rules: { IsTrue (is_pair name p.value w.value n.value t.value u.value) },
 }
 
-/// The operation of the row T14: a store or a load of several registers, from the base up or up to it.
+/// A store or a load of several registers, from the base up or up to it. The operation of the row T14: DDI0553, "STM, STMIA,
+/// STMEA", "LDM, LDMIA, LDMFD", "STMDB, STMFD" and "LDMDB, LDMEA".
 #[derive(Clone, Copy)]
 pub enum WideListName {
     Stmia,
@@ -110,7 +115,7 @@ pub struct T14 {
     pub ghost rules: { IsTrue (is_wide_list name w.value n.value list.value) },
 }
 
-/// The operation of the row T15.
+/// The operation of the row T15: DDI0553, "VPUSH" and "VPOP".
 #[derive(Clone, Copy)]
 pub enum StackName {
     Vpush,

@@ -1,6 +1,4 @@
--- Rows that load or store elements of vector registers: one form for all of them.
--- V24 and V25: DDI0553, "VLDRB, VLDRH, VLDRW" and "VSTRB, VSTRH, VSTRW";
--- V26 and V27: "VLDRB, VLDRH, VLDRW, VLDRD (vector)" and "VSTRB, VSTRH, VSTRW, VSTRD (vector)"; V28: "VLD2", "VLD4", "VST2" and "VST4".
+-- Rows that load or store elements of vector registers, V24 to V28: one form for all of them.
 use Rattle.std.specs.Prelude.{ℕ, zero, suc, ◌≡◌, ◌+◌, ◌-◌, ◌*◌, ◌%◌, ◌^◌, ◌<◌, Bool, true, false, not, ◌&&◌, ◌||◌, cond, eqb, leb, ltb, List, [], ◌∷◌, ◌++◌}
 use Rattle.std.specs.Prelude.{map, drop, get_or, Option, Some, None, Result, Ok}
 use Rattle.std.specs.Option.{option_or}
@@ -173,7 +171,9 @@ moves_leaf i x b ns es advance = record {
   mark = None;
 }
 
--- V24 to V28: beat b of a row
+-- V24 to V28: VLDRB to VLD4 and VSTRB to VST4: beat b of a row
+-- (DDI0553, "VLDRB, VLDRH, VLDRW", "VSTRB, VSTRH, VSTRW", "VLDRB, VLDRH, VLDRW, VLDRD (vector)", "VSTRB, VSTRH, VSTRW, VSTRD (vector)",
+-- "VLD2", "VLD4", "VST2" and "VST4")
 abbrev pub moves_tree : Moves → Around → ℕ → Tree
 moves_tree i x b =
     begun i.predicated b λ mask slice active. test_all (i.sources b) λ ns.
@@ -234,7 +234,7 @@ first_fault store len (e ∷ es) = option_or (fault_after (fault_kind true Vecto
 abbrev pub handed : Moves → ℕ → State → State
 handed i b s = put_all cells (loaded_at i b s) s
 
--- V24 to V28: all elements are moved in rising order, of which a word that is filled in parts takes one after another; and then come what is written
+-- all elements are moved in rising order, of which a word that is filled in parts takes one after another; and then come what is written
 -- back and the advance
 abbrev pub moved : Moves → State → State
 moved i s =
@@ -249,7 +249,9 @@ moved i s =
 abbrev pub all_elements : Moves → State → List Element
 all_elements i s = elements_at i 0 s ++ elements_at i 1 s ++ elements_at i 2 s ++ elements_at i 3 s
 
--- V24 to V28: what four beats come to: the first active element that has a fault gives it, and else all are moved
+-- V24 to V28: VLDRB to VLD4 and VSTRB to VST4: what four beats come to: the first active element that has a fault gives it, and else all are moved
+-- (DDI0553, "VLDRB, VLDRH, VLDRW", "VSTRB, VSTRH, VSTRW", "VLDRB, VLDRH, VLDRW, VLDRD (vector)", "VSTRB, VSTRH, VSTRW, VSTRD (vector)",
+-- "VLD2", "VLD4", "VST2" and "VST4")
 abbrev pub moves_by_words : Moves → State → Result State Fault
 moves_by_words i s = unless (first_fault i.store (byte_count i.memory) (all_elements i s)) (Ok (moved i s))
 

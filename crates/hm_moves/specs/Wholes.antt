@@ -1,6 +1,4 @@
--- The whole of a row that loads or stores: its elements as lists, in rising order, and whole registers.
--- V24 and V25: DDI0553, "VLDRB, VLDRH, VLDRW" and "VSTRB, VSTRH, VSTRW";
--- V26 and V27: "VLDRB, VLDRH, VLDRW, VLDRD (vector)" and "VSTRB, VSTRH, VSTRW, VSTRD (vector)"; V28: "VLD2", "VLD4", "VST2" and "VST4".
+-- The whole of a row that loads or stores, V24 to V28: its elements as lists, in rising order, and whole registers.
 use Rattle.std.specs.Prelude.{ℕ, ◌≡◌, ◌≤◌, ◌+◌, ◌*◌, ◌/◌, ◌%◌, ◌^◌, Bool, true, false, cond, List, [], ◌∷◌, ◌++◌, map, get_or, Option, None, Result, Ok}
 use Rattle.std.specs.List.{flat_map}
 use Rattle.std.specs.Option.{option_or}
@@ -27,14 +25,14 @@ abbrev pub count : Size → ℕ
 count z = 4 * per_word z
 
 -- WHERE THE ELEMENTS STAND IN MEMORY
--- V24 to V28: the addresses of the elements, of size y in memory and of size z in their register; an element at an address has that of its word
+-- the addresses of the elements, of size y in memory and of size z in their register; an element at an address has that of its word
 abbrev pub addresses : Size → Size → Found → State → List ℕ
 addresses y z (contiguous d n offset before back) s = each_from (λ j. (start before offset (at (R n) s) + byte_count y * j) % 2 ^ 32) 0 (count z)
 addresses y z (at_offsets d n m scale) s = map (λ o. (at (R n) s + o * 2 ^ scale) % 2 ^ 32) (lanes z (register_at m s))
 addresses y z (at_addresses d m offset back) s = each_from (λ j. (get_or (lanes Word (register_at m s)) (j / per_word z) 0 + offset) % 2 ^ 32) 0 (count z)
 addresses y z (interleaved d n four part back) s = each_from (λ k. (at (R n) s + byte_count y * k) % 2 ^ 32) (count z * part) (count z)
 
--- V24 to V28: which elements are moved: the active ones, or all of a row of V28, which is not under the predicate
+-- which elements are moved: the active ones, or all of a row that is not under the predicate
 abbrev pub are_moved : Size → Found → State → List Bool
 are_moved z w s = cond (way_predicated w) (firsts z (predicate_at s)) (each_from (λ j. true) 0 (count z))
 
@@ -45,10 +43,12 @@ fault_of store len _ _ = None
 
 -- A PART OF A REGISTER
 -- V28: of four registers each gives or takes one word, and of two registers two words, from this one on
+-- (DDI0553, "VLD2", "VLD4", "VST2" and "VST4")
 abbrev pub part_word : Bool → ℕ → ℕ
 part_word four part = cond four part (2 * part)
 
 -- V28: the bytes of a register that belong to a part: one word of each of four registers, two words of each of two
+-- (DDI0553, "VLD2", "VLD4", "VST2" and "VST4")
 abbrev pub part_at : Bool → ℕ → ℕ → State → List ℕ
 part_at four part q s =
     let b = part_word four part in
@@ -59,20 +59,21 @@ part_at four part q s =
 abbrev pub read_at : Size → State → ℕ → ℕ
 read_at y s a = little_endian (byte_count y) (numbers (map s.cell (map Byte (span_bytes a (byte_count y)))))
 
--- V24 to V28: what the number at an address is loaded as, extended with its sign or without
+-- what the number at an address is loaded as, extended with its sign or without
 abbrev pub loaded : Transfer → State → ℕ → ℕ
 loaded t s a = as_loaded (moves_by t) (read_at t.memory s a)
 
--- V24 to V28: the elements as they are loaded, with zero in the place of each that is not
+-- the elements as they are loaded, with zero in the place of each that is not
 abbrev pub loaded_elements : (ℕ → ℕ) → List Bool → List ℕ → List ℕ
 loaded_elements f (p ∷ ps) (a ∷ addrs) = cond p (f a) 0 ∷ loaded_elements f ps addrs
 loaded_elements f _ _ = []
 
 -- V28: of all elements those from number i on that registers which take them in turn leave to one: every second, or every fourth
+-- (DDI0553, "VLD2", "VLD4", "VST2" and "VST4")
 abbrev pub taken_by : ℕ → ℕ → ℕ → List ℕ → List ℕ
 taken_by all every i xs = each_from (λ e. get_or xs (every * e + i) 0) 0 (all / every)
 
--- V24 to V28: a register takes the elements, or each register its own, as a part of it
+-- a register takes the elements, or each register its own, as a part of it
 abbrev pub filled_registers : Size → Found → List ℕ → List (Cell × Value)
 filled_registers z (contiguous d n offset before back) xs = write_register d (unlanes z xs)
 filled_registers z (at_offsets d n m scale) xs = write_register d (unlanes z xs)
@@ -82,7 +83,7 @@ filled_registers z (interleaved d n four part back) xs =
     (each_from (λ i. i) 0 (registers four))
 
 -- STORES
--- V24 to V28: the elements as they stand in their register, or in a part of each register by turns
+-- the elements as they stand in their register, or in a part of each register by turns
 abbrev pub stored_elements : Size → Found → State → List ℕ
 stored_elements z (contiguous d n offset before back) s = lanes z (register_at d s)
 stored_elements z (at_offsets d n m scale) s = lanes z (register_at d s)
@@ -101,19 +102,22 @@ element_bytes y (p ∷ ps) (a ∷ addrs) (x ∷ xs) = cond p (number_bytes x 0 (
 element_bytes y _ _ _ = []
 
 -- THE WHOLE
--- V24 to V28: what is written back: the base register with the offset, or each word of addresses with it; by V28 the base moves past all elements
+-- what is written back: the base register with the offset, or each word of addresses with it; the base of interleaved elements moves past them all
 abbrev pub written_back : Found → State → List (Cell × Value)
 written_back (contiguous d n offset before back) s = cond back (into (write (R n) ((at (R n) s + offset) % 2 ^ 32)) ∷ []) []
 written_back (at_offsets d n m scale) s = []
 written_back (at_addresses d m offset back) s = cond back (write_register m (unlanes Word (map (λ a. (a + offset) % 2 ^ 32) (lanes Word (register_at m s))))) []
 written_back (interleaved d n four part back) s = cond back (into (write (R n) ((at (R n) s + 16 * registers four) % 2 ^ 32)) ∷ []) []
 
--- V24 to V28: what registers and bytes get, by which elements are moved and where they stand
+-- what registers and bytes get, by which elements are moved and where they stand
 abbrev pub transferred : Transfer → List Bool → List ℕ → State → List (Cell × Value)
 transferred t ps addrs s = cond t.store (element_bytes t.memory ps addrs (stored_elements t.register t.found s))
     (filled_registers t.register t.found (loaded_elements (loaded t s) ps addrs))
 
--- V24 to V28: the first element that has a fault gives it; else all elements are moved, the base or the addresses are written back, and the masks advance
+-- V24 to V28: VLDRB to VLD4 and VSTRB to VST4: the first element that has a fault gives it; else all elements are moved, the base or the addresses are
+-- written back, and the masks advance
+-- (DDI0553, "VLDRB, VLDRH, VLDRW", "VSTRB, VSTRH, VSTRW", "VLDRB, VLDRH, VLDRW, VLDRD (vector)", "VSTRB, VSTRH, VSTRW, VSTRD (vector)",
+-- "VLD2", "VLD4", "VST2" and "VST4")
 abbrev pub transfer_whole : Transfer → State → Result State Fault
 transfer_whole t s =
     let ps = are_moved t.register t.found s in

@@ -5,8 +5,7 @@ use Rattle.hm_isa.specs.declared.Instr.TheVariants as instr
 use Rattle.hm_isa.specs.declared.Scalar.{Scalar}
 use Rattle.hm_isa.specs.declared.Scalar.TheVariants as scalar
 
--- whether a scalar row loads or stores: S14 to S17, S20, and T12 to T15, which are LDR, STR, PUSH, POP, LDM, STM, LDRD, STRD, VPUSH, VPOP and
--- their kin (DDI0553, as "LDR (immediate)", "STR (immediate)", "POP (multiple registers)" and "VPUSH")
+-- whether a scalar row loads or stores: bytes, halfwords or words, pairs of words, or registers of a list
 abbrev pub loads_or_stores : Scalar → Bool
 loads_or_stores (scalar.S14 i) = true
 loads_or_stores (scalar.S15 i) = true
@@ -29,8 +28,7 @@ abbrev pub is_register_row : Instr → Bool
 is_register_row (instr.Scalar i) = not (loads_or_stores i)
 is_register_row i = false
 
--- whether an instruction is of a branch row: S23 to S25, T16, T17 and T23, which are BX, CBZ, B, BL, TBB, WLS, LE and their kin
--- (DDI0553, as "BX, BXNS", "CBNZ, CBZ", "B", "BL", "TBB, TBH", "WLS, DLS, WLSTP, DLSTP" and "LE, LETP")
+-- whether an instruction is of a branch row: a branch, a call, or the begin or end of a loop
 abbrev pub is_branch_row : Instr → Bool
 is_branch_row (instr.Branch i) = true
 is_branch_row i = false
