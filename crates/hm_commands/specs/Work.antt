@@ -19,7 +19,7 @@ use Rattle.hm_sched.specs.declared.errors.LineKind.{LineKind}
 use Rattle.hm_sched.specs.declared.errors.LineKind.TheVariants as kind
 use Rattle.hm_sched.specs.declared.errors.SchedErr.{SchedErr}
 use Rattle.hm_sched.specs.declared.errors.SchedErr.TheVariants as sched
-use Rattle.hm_text_base.specs.Texts.{hex8}
+use Rattle.hm_text_base.specs.Texts.{separator, hex8}
 use Rattle.hm_commands.specs.declared.work.Output.{Output}
 use Rattle.hm_commands.specs.declared.work.Finish.{Finish}
 use Rattle.hm_commands.specs.declared.work.Refusal.{Refusal}
@@ -56,7 +56,7 @@ kind_text kind.Newline = codes "newline"
 
 -- what is wrong with a schedule, after a text
 abbrev pub schedule_text : SchedErr → List ℕ → List ℕ
-schedule_text (sched.Line k kind) out = out ++ codes "line " ++ decimal k ++ codes " " ++ kind_text kind
+schedule_text (sched.Line k kind) out = out ++ codes "line " ++ decimal k ++ separator ++ kind_text kind
 schedule_text (sched.TooManyTicks k) out = out ++ codes "too many ticks " ++ decimal k
 schedule_text sched.OutOfMemory out = out
 
@@ -71,7 +71,7 @@ asm_kind_text row.Place = codes "place"
 
 -- what is wrong with a source, after a text
 abbrev pub source_text : AsmErr → List ℕ → List ℕ
-source_text (asm.Line k c kind) out = out ++ codes "line " ++ decimal k ++ codes " column " ++ decimal c ++ codes " " ++ asm_kind_text kind
+source_text (asm.Line k c kind) out = out ++ codes "line " ++ decimal k ++ codes " column " ++ decimal c ++ separator ++ asm_kind_text kind
 source_text asm.OutOfMemory out = out
 
 -- what is wrong with a script, after a text
@@ -100,7 +100,7 @@ kernel_kind_text fault.Deep = codes "deep"
 
 -- what is wrong with a text of the array language, after a text
 abbrev pub kernel_text : KernelErr → List ℕ → List ℕ
-kernel_text (kernel.Line k kind) out = out ++ codes "line " ++ decimal k ++ codes " " ++ kernel_kind_text kind
+kernel_text (kernel.Line k kind) out = out ++ codes "line " ++ decimal k ++ separator ++ kernel_kind_text kind
 kernel_text kernel.OutOfMemory out = out
 
 -- what a refusal's line says, after a text

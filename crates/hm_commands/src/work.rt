@@ -11,7 +11,7 @@ use hm_journal::JournalErr;
 use hm_kernel::{KernelErr, KernelKind};
 use hm_machine::Past;
 use hm_sched::{LineKind, SchedErr};
-use hm_text_base::{decimal, hex8, text};
+use hm_text_base::{decimal, hex8, separator, text};
 use std::alloc::Global;
 
 /// A file to write.
@@ -130,7 +130,7 @@ fn add_schedule_text(alloc: Global, out: &mut Vec<u8>, e: SchedErr) -> Result<()
         SchedErr::Line { line, kind } => {
             text(out, b"line ")?;
             decimal(alloc, out, line as u64)?;
-            text(out, b" ")?;
+            separator(out)?;
             text(out, kind_text(kind))
         }
         SchedErr::TooManyTicks { line } => {
@@ -165,7 +165,7 @@ fn add_source_text(alloc: Global, out: &mut Vec<u8>, e: AsmErr) -> Result<(), Ou
             decimal(alloc, out, line as u64)?;
             text(out, b" column ")?;
             decimal(alloc, out, column as u64)?;
-            text(out, b" ")?;
+            separator(out)?;
             text(out, asm_kind_text(kind))
         }
         AsmErr::OutOfMemory => Ok(()),
@@ -225,7 +225,7 @@ fn add_kernel_text(alloc: Global, out: &mut Vec<u8>, e: KernelErr) -> Result<(),
         KernelErr::Line { line, kind } => {
             text(out, b"line ")?;
             decimal(alloc, out, line as u64)?;
-            text(out, b" ")?;
+            separator(out)?;
             text(out, kernel_kind_text(kind))
         }
         KernelErr::OutOfMemory => Ok(()),

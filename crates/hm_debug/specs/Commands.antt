@@ -3,13 +3,13 @@ use Rattle.std.specs.Prelude.{◌≡◌, ℕ, ◌+◌, ◌^◌, ◌%◌, ◌<◌
 use Rattle.std.specs.Fmt.{decimal}
 use Rattle.hm_base.specs.Image.{flash_size}
 use Rattle.hm_sched.specs.Schedule.{most_ticks}
-use Rattle.hm_text_base.specs.Texts.{hex8}
+use Rattle.hm_text_base.specs.Texts.{separator, hex8}
 use Rattle.hm_debug.specs.declared.command.Command.{Command}
 use Rattle.hm_debug.specs.declared.command.Command.TheVariants.{Goto, Step, Back, Until, Show, Memory, Listing}
 
 -- an address, and how many are asked for from there on
 abbrev pub range_text : ℕ → ℕ → List ℕ
-range_text addr n = hex8 addr ++ codes " " ++ decimal n
+range_text addr n = hex8 addr ++ separator ++ decimal n
 
 -- the line of a command, without its end
 abbrev pub command_text : Command → List ℕ

@@ -7,7 +7,7 @@ use Rattle.hm_codes.specs.Listing.{Listing, half_at}
 use Rattle.hm_isa.specs.declared.Instr.{Instr}
 use Rattle.hm_listing.specs.Listings.{Entry, entry_line, half, halves_of, shown}
 use Rattle.hm_state.specs.State.{Byte, State}
-use Rattle.hm_text_base.specs.Texts.{hex2, hex8}
+use Rattle.hm_text_base.specs.Texts.{separator, hex2, hex8}
 
 -- a tick of the run
 abbrev pub tick_line : ℕ → List ℕ
@@ -38,7 +38,7 @@ contents_text s a n = if all_mapped a n then bytes_text s a n else codes "unmapp
 
 -- a line of an address and n bytes from there on
 abbrev pub memory_line : State → ℕ → ℕ → List ℕ
-memory_line s a n = hex8 a ++ codes " " ++ contents_text s a n ++ codes "\n"
+memory_line s a n = hex8 a ++ separator ++ contents_text s a n ++ codes "\n"
 
 -- rows of sixteen bytes, the last of as many as are left
 abbrev pub memory_lines : State → ℕ → ℕ → ℕ → List ℕ

@@ -7,7 +7,7 @@ ghost use Rattle.hm_machine.specs.Shown.{timed_of};
 
 use hm_base::OutOfMemory;
 use hm_machine::Machine;
-use hm_text_base::{hex2, hex8, text};
+use hm_text_base::{hex2, hex8, separator, text};
 
 /// How many bytes a line has at most.
 const ROW: u32 = 16;
@@ -61,7 +61,7 @@ fn add_row(out: &mut Vec<u8>, machine: &Machine, at: u32, count: u32) -> Result<
     ensures added { IfOk result (λ _. out.new.items ≡ out.old.items ++ memory_line (timed_of machine.now).config.state at count) }
 {
     hex8(out, at)?;
-    text(out, b" ")?;
+    separator(out)?;
     add_contents(out, machine, at, count)?;
     text(out, b"\n")
 }

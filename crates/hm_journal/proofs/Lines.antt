@@ -13,7 +13,7 @@ use Rattle.hm_run.specs.Report.{register_lines, report_of, state_lines, system_l
 use Rattle.hm_run.specs.Timed.{Timed}
 use Rattle.hm_run.specs.declared.Outcome.{Outcome}
 use Rattle.hm_state.specs.State.{regs_of}
-use Rattle.hm_text_base.specs.Texts.{binary_digit, hex2, hex8}
+use Rattle.hm_text_base.specs.Texts.{separator, binary_digit, hex2, hex8}
 use Rattle.hm_journal.specs.Formats.{behind_line, without, without_system}
 use Rattle.hm_journal.specs.Runs.{IsWithoutLine}
 
@@ -67,14 +67,14 @@ mode_stays (suc k) ipsr out h =
 low_stay : (k : ℕ) (r out : List ℕ) → Stays true true out → Stays true true (low_lines k r out)
 low_stay zero r out h = h
 low_stay (suc k) r out h =
-    line_stays (low_lines k r out) (codes "r") (decimal k ∷ codes " " ∷ hex8 (slice_index r k) ∷ []) (low_stay k r out h) (λ rest. refl)
+    line_stays (low_lines k r out) (codes "r") (decimal k ∷ separator ∷ hex8 (slice_index r k) ∷ []) (low_stay k r out h) (λ rest. refl)
     (decimal_plain k, (refl, (hex8_plain (slice_index r k), tt)))
 
 word_stays : (name : List ℕ) (x : ℕ) (out : List ℕ) → Stays true false name → Stays true true out → Stays true true (word_line name x out)
-word_stays name x out begins h = line_stays out name (codes " " ∷ hex8 x ∷ []) h begins (refl, (hex8_plain x, tt))
+word_stays name x out begins h = line_stays out name (separator ∷ hex8 x ∷ []) h begins (refl, (hex8_plain x, tt))
 
 flag_stays : (name : List ℕ) (b : Bool) (out : List ℕ) → Stays true false name → Stays true true out → Stays true true (bit_line name b out)
-flag_stays name b out begins h = line_stays out name (codes " " ∷ binary_digit b ∷ []) h begins (refl, (bit_plain b, tt))
+flag_stays name b out begins h = line_stays out name (separator ∷ binary_digit b ∷ []) h begins (refl, (bit_plain b, tt))
 
 pointers_stay : (g : Regs) (out : List ℕ) → Stays true true out → Stays true true (pointer_lines g out)
 pointers_stay g out h =
@@ -83,7 +83,7 @@ pointers_stay g out h =
     word_stays (codes "pc") g.pc lr (λ rest. refl) (word_stays (codes "lr") g.lr sp (λ rest. refl) (word_stays (codes "sp") g.sp out (λ rest. refl) h))
 
 position_stays : (a b : ℕ) (out : List ℕ) → Stays true true out → Stays true true (position_line a b out)
-position_stays a b out h = line_stays out (codes "position ") (decimal a ∷ codes " " ∷ decimal b ∷ []) h (λ rest. refl)
+position_stays a b out h = line_stays out (codes "position ") (decimal a ∷ separator ∷ decimal b ∷ []) h (λ rest. refl)
     (decimal_plain a, (refl, (decimal_plain b, tt)))
 
 flags_stay : (g : Regs) (out : List ℕ) → Stays true true out → Stays true true (flags_line g out)
@@ -123,12 +123,12 @@ behind_plain (x ∷ xs) rest plain = let parts = and_parts (is_shown x) (is_plai
 
 -- the system's line but for its end
 system_text : Regs → List ℕ
-system_text g = codes "system " ++ hex8 (main_of g) ++ codes " " ++ hex8 (process_of g) ++ codes " " ++ binary_digit g.spsel ++ codes " " ++ hex2 g.basepri
+system_text g = codes "system " ++ hex8 (main_of g) ++ separator ++ hex8 (process_of g) ++ separator ++ binary_digit g.spsel ++ separator ++ hex2 g.basepri
 
 system_plain : (g : Regs) → is_plain (system_text g) ≡ true
 unfolding system_text
 system_plain g =
-    adds is_shown (codes "system ") (hex8 (main_of g) ∷ codes " " ∷ hex8 (process_of g) ∷ codes " " ∷ binary_digit g.spsel ∷ codes " " ∷ hex2 g.basepri ∷ [])
+    adds is_shown (codes "system ") (hex8 (main_of g) ∷ separator ∷ hex8 (process_of g) ∷ separator ∷ binary_digit g.spsel ∷ separator ∷ hex2 g.basepri ∷ [])
     refl
     (hex8_plain (main_of g), (refl, (hex8_plain (process_of g), (refl, (bit_plain g.spsel, (refl, (hex2_plain g.basepri, tt)))))))
 

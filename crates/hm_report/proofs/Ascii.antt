@@ -28,7 +28,7 @@ use Rattle.hm_run.specs.Report.{system_line, state_lines, special_lines, vector_
 use Rattle.hm_run.specs.Report.{report_text}
 use Rattle.hm_run.specs.Timed.{Timed}
 use Rattle.hm_state.specs.State.{regs_of}
-use Rattle.hm_text_base.specs.Texts.{binary_digit, hex2, hex8}
+use Rattle.hm_text_base.specs.Texts.{separator, binary_digit, hex2, hex8}
 use Rattle.hm_report.proofs.Bytes.{AreAll, adds, appended, bit_is, bytes_are, decimal_is, decimal_plain, hex2_is, hex8_is, hex8_plain, is_ascii, is_low}
 use Rattle.hm_report.proofs.Bytes.{is_plain, is_shown, joined, plain_is, told}
 
@@ -85,7 +85,7 @@ module _ (P : List ℕ → Type 0) (more : (out part : List ℕ) → P out → i
   rule_is (rule.Memory addr) out h = with_parts out (codes "memory " ∷ hex8 addr ∷ []) h (refl, (hex8_plain addr, tt))
   rule_is rule.YoungerFault out h = with_parts out (codes "youngerfault" ∷ []) h (refl, tt)
   rule_is (rule.Ending a b) out h =
-      with_parts out (codes "ending " ∷ decimal a ∷ codes " " ∷ decimal b ∷ []) h (refl, (decimal_plain a, (refl, (decimal_plain b, tt))))
+      with_parts out (codes "ending " ∷ decimal a ∷ separator ∷ decimal b ∷ []) h (refl, (decimal_plain a, (refl, (decimal_plain b, tt))))
 
   broken_is : (b : Broken) (out : List ℕ) → P out → P (broken_text b out)
   broken_is (broken.ExcReturn value) out h = with_parts out (codes "return " ∷ hex8 value ∷ []) h (refl, (hex8_plain value, tt))
@@ -104,18 +104,18 @@ module _ (P : List ℕ → Type 0) (more : (out part : List ℕ) → P out → i
       with_parts (reason_text r (out ++ codes "halted ")) (codes " after " ∷ decimal n ∷ [])
       (reason_is r (out ++ codes "halted ") (with_parts out (codes "halted " ∷ []) h (refl, tt))) (refl, (decimal_plain n, tt))
   ended_is (outcome.Fault w f pc n) out h =
-      let begun = out ++ codes "fault " ++ who_text w ++ codes " " ++ kind_text f.kind in
+      let begun = out ++ codes "fault " ++ who_text w ++ separator ++ kind_text f.kind in
       with_parts (address_text pc f.addr begun) (codes " after " ∷ decimal n ∷ [])
-      (address_is pc f.addr begun (with_parts out (codes "fault " ∷ who_text w ∷ codes " " ∷ kind_text f.kind ∷ []) h
+      (address_is pc f.addr begun (with_parts out (codes "fault " ∷ who_text w ∷ separator ∷ kind_text f.kind ∷ []) h
       (refl, (who_is w, (refl, (kind_is f.kind, tt))))))
       (refl, (decimal_plain n, tt))
   ended_is (outcome.RuleBroken t step r) out h =
-      rule_is r (out ++ codes "rule tick " ++ decimal t ++ codes " step " ++ decimal step ++ codes " ")
-      (with_parts out (codes "rule tick " ∷ decimal t ∷ codes " step " ∷ decimal step ∷ codes " " ∷ []) h
+      rule_is r (out ++ codes "rule tick " ++ decimal t ++ codes " step " ++ decimal step ++ separator)
+      (with_parts out (codes "rule tick " ∷ decimal t ∷ codes " step " ∷ decimal step ∷ separator ∷ []) h
       (refl, (decimal_plain t, (refl, (decimal_plain step, (refl, tt))))))
   ended_is (outcome.HandlerBroken t what) out h =
-      offence_is what (out ++ codes "handler tick " ++ decimal t ++ codes " ")
-      (with_parts out (codes "handler tick " ∷ decimal t ∷ codes " " ∷ []) h (refl, (decimal_plain t, (refl, tt))))
+      offence_is what (out ++ codes "handler tick " ++ decimal t ++ separator)
+      (with_parts out (codes "handler tick " ∷ decimal t ∷ separator ∷ []) h (refl, (decimal_plain t, (refl, tt))))
   ended_is (outcome.TaintedRead t pc addr) out h =
       address_is pc addr (out ++ codes "tainted tick " ++ decimal t) (with_parts out (codes "tainted tick " ∷ decimal t ∷ []) h (refl, (decimal_plain t, tt)))
   ended_is (outcome.StackSpent t sp) out h =
@@ -141,14 +141,14 @@ mode_is (suc k) ipsr out h =
 low_are : (k : ℕ) (r out : List ℕ) → is_ascii out ≡ true → is_ascii (low_lines k r out) ≡ true
 low_are zero r out h = h
 low_are (suc k) r out h =
-    adds is_low (low_lines k r out) (codes "r" ∷ decimal k ∷ codes " " ∷ hex8 (slice_index r k) ∷ codes "\n" ∷ []) (low_are k r out h)
+    adds is_low (low_lines k r out) (codes "r" ∷ decimal k ∷ separator ∷ hex8 (slice_index r k) ∷ codes "\n" ∷ []) (low_are k r out h)
     (refl, (decimal_is k, (refl, (hex8_is (slice_index r k), (refl, tt)))))
 
 word_is : (name : List ℕ) (x : ℕ) (out : List ℕ) → is_ascii name ≡ true → is_ascii out ≡ true → is_ascii (word_line name x out) ≡ true
-word_is name x out n h = adds is_low out (name ∷ codes " " ∷ hex8 x ∷ codes "\n" ∷ []) h (n, (refl, (hex8_is x, (refl, tt))))
+word_is name x out n h = adds is_low out (name ∷ separator ∷ hex8 x ∷ codes "\n" ∷ []) h (n, (refl, (hex8_is x, (refl, tt))))
 
 flag_is : (name : List ℕ) (b : Bool) (out : List ℕ) → is_ascii name ≡ true → is_ascii out ≡ true → is_ascii (bit_line name b out) ≡ true
-flag_is name b out n h = adds is_low out (name ∷ codes " " ∷ binary_digit b ∷ codes "\n" ∷ []) h (n, (refl, (bit_is b, (refl, tt))))
+flag_is name b out n h = adds is_low out (name ∷ separator ∷ binary_digit b ∷ codes "\n" ∷ []) h (n, (refl, (bit_is b, (refl, tt))))
 
 pointers_are : (g : Regs) (out : List ℕ) → is_ascii out ≡ true → is_ascii (pointer_lines g out) ≡ true
 pointers_are g out h =
@@ -157,7 +157,7 @@ pointers_are g out h =
     word_is (codes "pc") g.pc lr refl (word_is (codes "lr") g.lr sp refl (word_is (codes "sp") g.sp out refl h))
 
 position_is : (a b : ℕ) (out : List ℕ) → is_ascii out ≡ true → is_ascii (position_line a b out) ≡ true
-position_is a b out h = adds is_low out (codes "position " ∷ decimal a ∷ codes " " ∷ decimal b ∷ codes "\n" ∷ []) h
+position_is a b out h = adds is_low out (codes "position " ∷ decimal a ∷ separator ∷ decimal b ∷ codes "\n" ∷ []) h
     (refl, (decimal_is a, (refl, (decimal_is b, (refl, tt)))))
 
 flags_are : (g : Regs) (out : List ℕ) → is_ascii out ≡ true → is_ascii (flags_line g out) ≡ true
@@ -167,7 +167,7 @@ flags_are g out h =
 
 system_is : (g : Regs) (out : List ℕ) → is_ascii out ≡ true → is_ascii (system_line g out) ≡ true
 system_is g out h =
-    adds is_low out (codes "system " ∷ hex8 (main_of g) ∷ codes " " ∷ hex8 (process_of g) ∷ codes " " ∷ binary_digit g.spsel ∷ codes " " ∷ hex2 g.basepri
+    adds is_low out (codes "system " ∷ hex8 (main_of g) ∷ separator ∷ hex8 (process_of g) ∷ separator ∷ binary_digit g.spsel ∷ separator ∷ hex2 g.basepri
     ∷ codes "\n"
     ∷ []) h
     (refl, (hex8_is (main_of g), (refl, (hex8_is (process_of g), (refl, (bit_is g.spsel, (refl, (hex2_is g.basepri, (refl, tt)))))))))
@@ -191,14 +191,14 @@ words_are k qw out h =
     let second = slice_index qw (4 * k + 1) in
     let third = slice_index qw (4 * k + 2) in
     let fourth = slice_index qw (4 * k + 3) in
-    adds is_low out (hex8 first ∷ codes " " ∷ hex8 second ∷ codes " " ∷ hex8 third ∷ codes " " ∷ hex8 fourth ∷ []) h
+    adds is_low out (hex8 first ∷ separator ∷ hex8 second ∷ separator ∷ hex8 third ∷ separator ∷ hex8 fourth ∷ []) h
     (hex8_is first, (refl, (hex8_is second, (refl, (hex8_is third, (refl, (hex8_is fourth, tt)))))))
 
 vector_is : (k : ℕ) (qw out : List ℕ) → is_ascii out ≡ true → is_ascii (vector_line k qw out) ≡ true
 vector_is k qw out h =
-    let name = out ++ codes "q" ++ decimal k ++ codes " " in
+    let name = out ++ codes "q" ++ decimal k ++ separator in
     adds is_low (vector_words k qw name) (codes "\n" ∷ [])
-    (words_are k qw name (adds is_low out (codes "q" ∷ decimal k ∷ codes " " ∷ []) h (refl, (decimal_is k, (refl, tt))))) (refl, tt)
+    (words_are k qw name (adds is_low out (codes "q" ∷ decimal k ∷ separator ∷ []) h (refl, (decimal_is k, (refl, tt))))) (refl, tt)
 
 vectors_are : (k : ℕ) (qw out : List ℕ) → is_ascii out ≡ true → is_ascii (vector_lines k qw out) ≡ true
 vectors_are zero qw out h = h

@@ -8,7 +8,7 @@ ghost use Rattle.hm_run.specs.Report.{offence_text, halted_text, ended_text, out
 use hm_base::{Fault, FaultKind, OutOfMemory, Place};
 use hm_exc::{Broken, Slot};
 use hm_run::{Offence, Outcome, Reason, Who};
-use hm_text_base::{decimal, hex8, text};
+use hm_text_base::{decimal, hex8, separator, text};
 use hm_window::Rule;
 use std::alloc::Global;
 
@@ -133,7 +133,7 @@ fn ending_text(alloc: Global, out: &mut Vec<u8>, a: u8, b: u8) -> Result<(), Out
 {
     text(out, b"ending ")?;
     decimal(alloc, out, a as u64)?;
-    text(out, b" ")?;
+    separator(out)?;
     decimal(alloc, out, b as u64)
 }
 
@@ -235,7 +235,7 @@ fn fault_text(
 {
     text(out, b"fault ")?;
     text(out, who_text(who))?;
-    text(out, b" ")?;
+    separator(out)?;
     text(out, kind_text(fault.kind))?;
     address_text(out, pc, fault.addr)?;
     text(out, b" after ")?;
@@ -256,7 +256,7 @@ fn broken_rule_text(
     decimal(alloc, out, tick as u64)?;
     text(out, b" step ")?;
     decimal(alloc, out, step as u64)?;
-    text(out, b" ")?;
+    separator(out)?;
     rule_text(alloc, out, rule)
 }
 
@@ -271,7 +271,7 @@ fn handler_text(
 {
     text(out, b"handler tick ")?;
     decimal(alloc, out, tick as u64)?;
-    text(out, b" ")?;
+    separator(out)?;
     offence_text(alloc, out, what)
 }
 

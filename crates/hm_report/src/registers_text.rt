@@ -6,7 +6,7 @@ ghost use Rattle.hm_run.specs.Report.{vector_words, vector_line, vector_lines, r
 
 use hm_base::OutOfMemory;
 use hm_regs::Regs;
-use hm_text_base::{binary_digit, decimal, hex2, hex8, text};
+use hm_text_base::{binary_digit, decimal, hex2, hex8, separator, text};
 use hm_window::Window;
 use std::alloc::Global;
 
@@ -18,7 +18,7 @@ fn low_lines(alloc: Global, out: &mut Vec<u8>, r: &[u32], count: usize) -> Resul
     for k in 0..count {
         text(out, b"r")?;
         decimal(alloc, out, k as u64)?;
-        text(out, b" ")?;
+        separator(out)?;
         hex8(out, r[k])?;
         text(out, b"\n")?;
     }
@@ -30,7 +30,7 @@ fn word_line(out: &mut Vec<u8>, name: &[u8], x: u32) -> Result<(), OutOfMemory>
     ensures { IfOk result (λ _. out.new.items ≡ word_line name.now x out.old.items) }
 {
     text(out, name)?;
-    text(out, b" ")?;
+    separator(out)?;
     hex8(out, x)?;
     text(out, b"\n")
 }
@@ -40,7 +40,7 @@ fn bit_line(out: &mut Vec<u8>, name: &[u8], b: bool) -> Result<(), OutOfMemory>
     ensures { IfOk result (λ _. out.new.items ≡ bit_line name.now b out.old.items) }
 {
     text(out, name)?;
-    text(out, b" ")?;
+    separator(out)?;
     binary_digit(out, b)?;
     text(out, b"\n")
 }
@@ -60,7 +60,7 @@ fn position_line(alloc: Global, out: &mut Vec<u8>, position: Window) -> Result<(
 {
     text(out, b"position ")?;
     decimal(alloc, out, position.a as u64)?;
-    text(out, b" ")?;
+    separator(out)?;
     decimal(alloc, out, position.b as u64)?;
     text(out, b"\n")
 }
@@ -84,11 +84,11 @@ fn system_line(out: &mut Vec<u8>, regs: &Regs) -> Result<(), OutOfMemory>
 {
     text(out, b"system ")?;
     hex8(out, regs.main_pointer())?;
-    text(out, b" ")?;
+    separator(out)?;
     hex8(out, regs.process_pointer())?;
-    text(out, b" ")?;
+    separator(out)?;
     binary_digit(out, regs.spsel)?;
-    text(out, b" ")?;
+    separator(out)?;
     hex2(out, regs.basepri)?;
     text(out, b"\n")
 }
@@ -120,11 +120,11 @@ fn vector_words(out: &mut Vec<u8>, k: usize, words: &[u32]) -> Result<(), OutOfM
     ensures { IfOk result (λ _. out.new.items ≡ vector_words k words.now out.old.items) }
 {
     hex8(out, words[4 * k])?;
-    text(out, b" ")?;
+    separator(out)?;
     hex8(out, words[4 * k + 1])?;
-    text(out, b" ")?;
+    separator(out)?;
     hex8(out, words[4 * k + 2])?;
-    text(out, b" ")?;
+    separator(out)?;
     hex8(out, words[4 * k + 3])
 }
 
@@ -135,7 +135,7 @@ fn vector_line(alloc: Global, out: &mut Vec<u8>, k: usize, words: &[u32]) -> Res
 {
     text(out, b"q")?;
     decimal(alloc, out, k as u64)?;
-    text(out, b" ")?;
+    separator(out)?;
     vector_words(out, k, words)?;
     text(out, b"\n")
 }

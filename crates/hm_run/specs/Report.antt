@@ -24,7 +24,7 @@ use Rattle.hm_run.specs.declared.Who.{Who}
 use Rattle.hm_run.specs.declared.Who.TheVariants as who
 use Rattle.hm_run.specs.Timed.{Timed}
 use Rattle.hm_state.specs.State.{regs_of, sram_bytes, taint_bytes}
-use Rattle.hm_text_base.specs.Texts.{hex2, hex8, binary_digit}
+use Rattle.hm_text_base.specs.Texts.{separator, hex2, hex8, binary_digit}
 
 -- THE FIRST LINE
 -- the word for a kind of fault
@@ -88,7 +88,7 @@ rule_text rule.Order out = out ++ codes "order"
 rule_text (rule.Register p) out = place_text p (out ++ codes "register ")
 rule_text (rule.Memory addr) out = out ++ codes "memory " ++ hex8 addr
 rule_text rule.YoungerFault out = out ++ codes "youngerfault"
-rule_text (rule.Ending a b) out = out ++ codes "ending " ++ decimal a ++ codes " " ++ decimal b
+rule_text (rule.Ending a b) out = out ++ codes "ending " ++ decimal a ++ separator ++ decimal b
 
 -- how a return differs from its entry
 abbrev pub broken_text : Broken → List ℕ → List ℕ
@@ -110,9 +110,9 @@ halted_text reason n out = reason_text reason (out ++ codes "halted ") ++ codes 
 abbrev pub ended_text : Outcome → List ℕ → List ℕ
 ended_text (outcome.Halted reason n) out = halted_text reason n out
 ended_text (outcome.Fault who f pc n) out =
-    address_text pc f.addr (out ++ codes "fault " ++ who_text who ++ codes " " ++ kind_text f.kind) ++ codes " after " ++ decimal n
-ended_text (outcome.RuleBroken t step r) out = rule_text r (out ++ codes "rule tick " ++ decimal t ++ codes " step " ++ decimal step ++ codes " ")
-ended_text (outcome.HandlerBroken t what) out = offence_text what (out ++ codes "handler tick " ++ decimal t ++ codes " ")
+    address_text pc f.addr (out ++ codes "fault " ++ who_text who ++ separator ++ kind_text f.kind) ++ codes " after " ++ decimal n
+ended_text (outcome.RuleBroken t step r) out = rule_text r (out ++ codes "rule tick " ++ decimal t ++ codes " step " ++ decimal step ++ separator)
+ended_text (outcome.HandlerBroken t what) out = offence_text what (out ++ codes "handler tick " ++ decimal t ++ separator)
 ended_text (outcome.TaintedRead t pc addr) out = address_text pc addr (out ++ codes "tainted tick " ++ decimal t)
 ended_text (outcome.StackSpent t sp) out = out ++ codes "stack tick " ++ decimal t ++ codes " sp " ++ hex8 sp
 ended_text (outcome.OutputFull t) out = out ++ codes "output tick " ++ decimal t
@@ -136,11 +136,11 @@ mode_line (suc k) ipsr out = out ++ codes "mode handler " ++ decimal ipsr ++ cod
 -- the lines of registers 0 to k-1
 abbrev pub low_lines : ℕ → List ℕ → List ℕ → List ℕ
 low_lines zero r out = out
-low_lines (suc k) r out = low_lines k r out ++ codes "r" ++ decimal k ++ codes " " ++ hex8 (slice_index r k) ++ codes "\n"
+low_lines (suc k) r out = low_lines k r out ++ codes "r" ++ decimal k ++ separator ++ hex8 (slice_index r k) ++ codes "\n"
 
 -- a line of a name and a word
 abbrev pub word_line : List ℕ → ℕ → List ℕ → List ℕ
-word_line name x out = out ++ name ++ codes " " ++ hex8 x ++ codes "\n"
+word_line name x out = out ++ name ++ separator ++ hex8 x ++ codes "\n"
 
 -- the lines of sp, lr and pc
 abbrev pub pointer_lines : Regs → List ℕ → List ℕ
@@ -148,7 +148,7 @@ pointer_lines g out = word_line (codes "pc") g.pc (word_line (codes "lr") g.lr (
 
 -- the line of the position: how many beats are done of the older instruction, and of the younger
 abbrev pub position_line : ℕ → ℕ → List ℕ → List ℕ
-position_line a b out = out ++ codes "position " ++ decimal a ++ codes " " ++ decimal b ++ codes "\n"
+position_line a b out = out ++ codes "position " ++ decimal a ++ separator ++ decimal b ++ codes "\n"
 
 -- the line of N, Z, C, V and Q
 abbrev pub flags_line : Regs → List ℕ → List ℕ
@@ -156,11 +156,11 @@ flags_line g out = out ++ codes "flags " ++ binary_digit g.n ++ binary_digit g.z
 
 -- a line of a name and a bit
 abbrev pub bit_line : List ℕ → Bool → List ℕ → List ℕ
-bit_line name b out = out ++ name ++ codes " " ++ binary_digit b ++ codes "\n"
+bit_line name b out = out ++ name ++ separator ++ binary_digit b ++ codes "\n"
 
 -- the line of the main and the process stack pointer, SPSEL and BASEPRI
 abbrev pub system_line : Regs → List ℕ → List ℕ
-system_line g out = out ++ codes "system " ++ hex8 (main_of g) ++ codes " " ++ hex8 (process_of g) ++ codes " " ++ binary_digit g.spsel ++ codes " "
+system_line g out = out ++ codes "system " ++ hex8 (main_of g) ++ separator ++ hex8 (process_of g) ++ separator ++ binary_digit g.spsel ++ separator
     ++ hex2 g.basepri
     ++ codes "\n"
 
@@ -177,12 +177,12 @@ special_lines g out = system_line g (state_lines g out)
 -- the four words of vector register k
 abbrev pub vector_words : ℕ → List ℕ → List ℕ → List ℕ
 vector_words k qw out =
-    out ++ hex8 (slice_index qw (4 * k)) ++ codes " " ++ hex8 (slice_index qw (4 * k + 1)) ++ codes " "
-    ++ hex8 (slice_index qw (4 * k + 2)) ++ codes " " ++ hex8 (slice_index qw (4 * k + 3))
+    out ++ hex8 (slice_index qw (4 * k)) ++ separator ++ hex8 (slice_index qw (4 * k + 1)) ++ separator
+    ++ hex8 (slice_index qw (4 * k + 2)) ++ separator ++ hex8 (slice_index qw (4 * k + 3))
 
 -- the line of vector register k: its four words, the lowest first
 abbrev pub vector_line : ℕ → List ℕ → List ℕ → List ℕ
-vector_line k qw out = vector_words k qw (out ++ codes "q" ++ decimal k ++ codes " ") ++ codes "\n"
+vector_line k qw out = vector_words k qw (out ++ codes "q" ++ decimal k ++ separator) ++ codes "\n"
 
 -- the lines of vector registers 0 to k-1
 abbrev pub vector_lines : ℕ → List ℕ → List ℕ → List ℕ

@@ -19,7 +19,7 @@ use Rattle.hm_run.specs.declared.Who.{Who}
 use Rattle.hm_shake.specs.Kinds.{joined, kind_name, kind_text}
 use Rattle.hm_shake_runs.specs.declared.kinds.Kind.{Kind}
 use Rattle.hm_shake_runs.specs.declared.kinds.Kind.TheVariants as kind
-use Rattle.hm_text_base.specs.Texts.{hex8, hex_digit}
+use Rattle.hm_text_base.specs.Texts.{separator, hex8, hex_digit}
 
 -- a byte that is ASCII and no minus
 abbrev pub is_worded : ℕ → Bool
@@ -116,7 +116,7 @@ pub kind_words : (k : Kind) → are_words (kind_text k []) ≡ true
 kind_words (kind.Halted reason n) =
     with_parts (reason_text reason (codes "halted ")) (codes " after " ∷ decimal n ∷ []) (reason_is reason (codes "halted ") refl)
     (refl, (decimal_words n, tt))
-kind_words (kind.Fault w k) = with_parts [] (codes "fault " ∷ who_text w ∷ codes " " ∷ fault_text k ∷ []) refl (refl, (who_is w, (refl, (fault_is k, tt))))
+kind_words (kind.Fault w k) = with_parts [] (codes "fault " ∷ who_text w ∷ separator ∷ fault_text k ∷ []) refl (refl, (who_is w, (refl, (fault_is k, tt))))
 kind_words (kind.Register name) = slot_is name (codes "handler register ") refl
 kind_words k = refl
 

@@ -1,6 +1,7 @@
 -- TEXTS AND NAMES OF KINDS of outcomes, and which of them halt.
 use Rattle.std.specs.Prelude.{Bool, false, true, ℕ, List, [], ◌++◌, codes, if◌then◌else◌, map, nat_eq}
 use Rattle.hm_text_base.specs.Marks.{minus_sign, space}
+use Rattle.hm_text_base.specs.Texts.{separator}
 use Rattle.hm_run.specs.Report.{halted_text, kind_text as fault_text, slot_text, who_text}
 use Rattle.hm_shake_runs.specs.declared.kinds.Kind.{Kind}
 use Rattle.hm_shake_runs.specs.declared.kinds.Kind.TheVariants as kind
@@ -8,7 +9,7 @@ use Rattle.hm_shake_runs.specs.declared.kinds.Kind.TheVariants as kind
 -- THE TEXT OF A KIND, behind what stands before it
 abbrev pub kind_text : Kind → List ℕ → List ℕ
 kind_text (kind.Halted reason n) out = halted_text reason n out
-kind_text (kind.Fault who k) out = out ++ codes "fault " ++ who_text who ++ codes " " ++ fault_text k
+kind_text (kind.Fault who k) out = out ++ codes "fault " ++ who_text who ++ separator ++ fault_text k
 kind_text kind.Rule out = out ++ codes "rule"
 kind_text (kind.Register name) out = slot_text name (out ++ codes "handler register ")
 kind_text kind.Frame out = out ++ codes "handler frame"

@@ -8,7 +8,7 @@ use hm_base::{FaultKind, OutOfMemory};
 use hm_report::{halted_text, kind_text, slot_text, who_text};
 use hm_run::Who;
 use hm_shake_runs::{Found, Kind};
-use hm_text_base::{decimal, text};
+use hm_text_base::{decimal, separator, text};
 use std::alloc::Global;
 
 /// Adds a fault.
@@ -17,7 +17,7 @@ fn add_fault(out: &mut Vec<u8>, who: Who, kind: FaultKind) -> Result<(), OutOfMe
 {
     text(out, b"fault ")?;
     text(out, who_text(who))?;
-    text(out, b" ")?;
+    separator(out)?;
     text(out, kind_text(kind))
 }
 

@@ -4,7 +4,7 @@
 ghost use Rattle.std.specs.Prelude.{◌≡◌, ℕ, ◌++◌, ◌<◌, List, IfOk};
 ghost use Rattle.std.specs.Fmt.{decimal};
 ghost use Rattle.hex.specs.Hex.{encode_lower};
-ghost use Rattle.hm_text_base.specs.Texts.{hex_digit, hex2, hex8, binary_digit};
+ghost use Rattle.hm_text_base.specs.Texts.{separator, hex_digit, hex2, hex8, binary_digit};
 
 mod numbers;
 mod spans;
@@ -32,6 +32,13 @@ pub fn text(out: &mut Vec<u8>, more: &[u8]) -> Result<(), OutOfMemory>
 {
     out.extend_from_slice(more)?;
     Ok(())
+}
+
+/// Adds the space between two parts of a line.
+pub fn separator(out: &mut Vec<u8>) -> Result<(), OutOfMemory>
+    ensures { IfOk result (λ _. out.new.items ≡ out.old.items ++ separator) }
+{
+    text(out, b" ")
 }
 
 /// Adds a byte in two hexadecimal digits.

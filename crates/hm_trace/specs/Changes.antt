@@ -4,7 +4,7 @@ use Rattle.std.proofs.Math.Bool.{beq}
 use Rattle.std.specs.Fmt.{decimal}
 use Rattle.hm_regs.specs.declared.Regs.{Regs}
 use Rattle.hm_run.specs.Report.{word_text}
-use Rattle.hm_text_base.specs.Texts.{binary_digit, hex2, hex8}
+use Rattle.hm_text_base.specs.Texts.{separator, binary_digit, hex2, hex8}
 use Rattle.hm_trace.specs.declared.changes.Word.{Word}
 use Rattle.hm_trace.specs.declared.changes.Word.TheVariants.{Core, Vector, Sp, Other, Lr, Fpscr, Vpr}
 
@@ -20,11 +20,11 @@ word_name Vpr = codes "vpr"
 
 -- a word under its name, where it changed
 abbrev pub word_change : Word → ℕ → ℕ → List ℕ
-word_change word old new = if nat_eq old new then [] else codes " " ++ word_name word ++ codes " " ++ hex8 new
+word_change word old new = if nat_eq old new then [] else separator ++ word_name word ++ separator ++ hex8 new
 
 -- a truth value under its name, where it changed
 abbrev pub bit_change : List ℕ → Bool → Bool → List ℕ
-bit_change name old new = if beq old new then [] else codes " " ++ name ++ codes " " ++ binary_digit new
+bit_change name old new = if beq old new then [] else separator ++ name ++ separator ++ binary_digit new
 
 -- the texts of so many numbers from k on, one behind another
 unfoldable pub texts_from : (ℕ → List ℕ) → ℕ → ℕ → List ℕ
@@ -53,7 +53,7 @@ flags_change old new = if same_flags old new then [] else codes " flags " ++ fla
 
 -- a byte under its name, where it changed
 abbrev pub byte_change : List ℕ → ℕ → ℕ → List ℕ
-byte_change name old new = if nat_eq old new then [] else codes " " ++ name ++ codes " " ++ hex2 new
+byte_change name old new = if nat_eq old new then [] else separator ++ name ++ separator ++ hex2 new
 
 -- the stack pointer in use and the other one, and the link register
 unfoldable pub pointer_changes : Regs → Regs → List ℕ

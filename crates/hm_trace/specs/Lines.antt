@@ -12,7 +12,7 @@ use Rattle.hm_run.specs.declared.Outcome.{Outcome}
 use Rattle.hm_sched.specs.Printed.{tick_text}
 use Rattle.hm_state.specs.State.{regs_of}
 use Rattle.hm_text.specs.Tables.{printed_text}
-use Rattle.hm_text_base.specs.Texts.{hex8}
+use Rattle.hm_text_base.specs.Texts.{separator, hex8}
 use Rattle.hm_trace.specs.Changes.{changes}
 use Rattle.hm_trace.specs.Progresses.{progresses}
 use Rattle.hm_trace.specs.Stands.{Past}
@@ -27,12 +27,12 @@ text_of a (Err fault) = codes "no instruction"
 
 -- an address, and what stands there
 abbrev pub instr_text : Listing → ℕ → List ℕ
-instr_text listing a = hex8 a ++ (codes " " ++ text_of a (listing a))
+instr_text listing a = hex8 a ++ (separator ++ text_of a (listing a))
 
 -- a space and a number for each handler that is active, the oldest first
 abbrev pub numbers_text : List Activation → List ℕ
 numbers_text [] = []
-numbers_text (z ∷ zs) = numbers_text zs ++ (codes " " ++ decimal z.number)
+numbers_text (z ∷ zs) = numbers_text zs ++ (separator ++ decimal z.number)
 
 -- the thread, or the handlers that are active
 abbrev pub mode_text : List Activation → List ℕ
@@ -49,7 +49,7 @@ mark_text Both n = codes " return entry " ++ decimal n
 -- the tick, its letters and interrupts, and what entered or returned in it
 abbrev pub steps_part : Past → Mark → Timed → List ℕ
 steps_part p mark y =
-    codes "tick " ++ (decimal y.ticks ++ (codes " " ++ (tick_text p.line ++ mark_text mark (regs_of y.config.state).ipsr)))
+    codes "tick " ++ (decimal y.ticks ++ (separator ++ (tick_text p.line ++ mark_text mark (regs_of y.config.state).ipsr)))
 
 -- pc
 unfoldable pub pc_part : Timed → List ℕ
@@ -61,7 +61,7 @@ retired_part y = codes " retired " ++ decimal y.config.n
 
 -- where the run stands after a tick: who runs, pc, and how many instructions are retired
 unfoldable pub where_part : Timed → List ℕ
-where_part y = codes " " ++ (mode_text y.acts ++ (pc_part y ++ retired_part y))
+where_part y = separator ++ (mode_text y.acts ++ (pc_part y ++ retired_part y))
 
 -- what a line begins with: what the tick did, and where the run stands after it
 abbrev pub head_part : Past → Mark → Timed → List ℕ
@@ -77,7 +77,7 @@ beats_text done = codes "[" ++ (beat_mark done 0 ++ (beat_mark done 1 ++ (beat_m
 
 -- an instruction: its beats that are done after the tick, its address and its text
 abbrev pub progress_part : Listing → Progress → List ℕ
-progress_part listing p = codes " | " ++ (beats_text p.after ++ (codes " " ++ instr_text listing p.addr))
+progress_part listing p = codes " | " ++ (beats_text p.after ++ (separator ++ instr_text listing p.addr))
 
 -- what changed, where something did: each change begins with a space
 abbrev pub changes_part : List ℕ → List ℕ

@@ -8,7 +8,7 @@ use Rattle.hm_run.specs.Timed.{Timed}
 use Rattle.hm_run.specs.declared.Outcome.{Outcome}
 use Rattle.hm_sched.specs.Printed.{tick_text}
 use Rattle.hm_state.specs.State.{regs_of}
-use Rattle.hm_text_base.specs.Texts.{hex8}
+use Rattle.hm_text_base.specs.Texts.{separator, hex8}
 use Rattle.hm_trace.specs.Changes.{changes}
 use Rattle.hm_trace.specs.Lines.{instr_text, mode_text}
 use Rattle.hm_trace.specs.Progresses.{progresses}
@@ -55,7 +55,7 @@ group_start a = tag_text Group ++ (decimal (column a) ++ (tag_text Hue ++ (decim
 
 -- an address, and what stands there
 abbrev pub group_text : Listing → ℕ → List ℕ
-group_text listing a = codes " " ++ (instr_text listing a ++ tag_text GroupEnd)
+group_text listing a = separator ++ (instr_text listing a ++ tag_text GroupEnd)
 
 -- an instruction: its boxes, its address and its text, in its column and its colour
 abbrev pub progress_group : Listing → Progress → List ℕ

@@ -7,7 +7,7 @@ ghost use Rattle.hm_trace.specs.Changes.{same_flags, status_changes, vector_chan
 use hm_base::OutOfMemory;
 use hm_regs::Regs;
 use hm_report::word_text;
-use hm_text_base::{binary_digit, decimal, hex2, hex8, text};
+use hm_text_base::{binary_digit, decimal, hex2, hex8, separator, text};
 use std::alloc::Global;
 
 /// A word of the registers.
@@ -55,9 +55,9 @@ fn add_word(
     if before == after {
         return Ok(());
     }
-    text(out, b" ")?;
+    separator(out)?;
     add_name(alloc, out, word)?;
-    text(out, b" ")?;
+    separator(out)?;
     hex8(out, after)
 }
 
@@ -68,9 +68,9 @@ fn add_bit(out: &mut Vec<u8>, name: &[u8], before: bool, after: bool) -> Result<
     if before == after {
         return Ok(());
     }
-    text(out, b" ")?;
+    separator(out)?;
     text(out, name)?;
-    text(out, b" ")?;
+    separator(out)?;
     binary_digit(out, after)
 }
 
@@ -146,9 +146,9 @@ fn add_byte(out: &mut Vec<u8>, name: &[u8], before: u8, after: u8) -> Result<(),
     if before == after {
         return Ok(());
     }
-    text(out, b" ")?;
+    separator(out)?;
     text(out, name)?;
-    text(out, b" ")?;
+    separator(out)?;
     hex2(out, after)
 }
 

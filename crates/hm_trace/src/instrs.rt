@@ -8,7 +8,7 @@ ghost use Rattle.hm_trace.specs.Lines.{instr_text, text_of};
 use hm_base::OutOfMemory;
 use hm_machine::Machine;
 use hm_text::print_instr;
-use hm_text_base::{hex8, text};
+use hm_text_base::{hex8, separator, text};
 
 /// Adds the text of the instruction that stands at an address, or that none does.
 fn add_text(out: &mut Vec<u8>, machine: &Machine, addr: u32) -> Result<(), OutOfMemory>
@@ -27,6 +27,6 @@ pub fn add_instr(out: &mut Vec<u8>, machine: &Machine, addr: u32) -> Result<(), 
         → IfOk result (λ _. out.new.items ≡ out.old.items ++ instr_text listing addr) }
 {
     hex8(out, addr)?;
-    text(out, b" ")?;
+    separator(out)?;
     add_text(out, machine, addr)
 }

@@ -21,7 +21,7 @@ use hm_machine::{Machine, Outcome};
 use hm_regs::Regs;
 use hm_report::outcome_line;
 use hm_sched::print_tick;
-use hm_text_base::{decimal, hex8, text};
+use hm_text_base::{decimal, hex8, separator, text};
 use std::alloc::Global;
 
 /// Adds what entered or returned, with the number of the exception that entered.
@@ -54,7 +54,7 @@ fn add_tick_part(
 {
     text(out, b"tick ")?;
     decimal(alloc, out, u64::from(machine.ticks()))?;
-    text(out, b" ")?;
+    separator(out)?;
     print_tick(alloc, out, &before.line)?;
     add_mark(alloc, out, mark, machine.regs().ipsr)
 }
@@ -81,7 +81,7 @@ fn add_retired(alloc: Global, out: &mut Vec<u8>, machine: &Machine) -> Result<()
 fn add_where(alloc: Global, out: &mut Vec<u8>, machine: &Machine) -> Result<(), OutOfMemory>
     ensures added { IfOk result (λ _. out.new.items ≡ out.old.items ++ where_part (timed_of machine.now)) }
 {
-    text(out, b" ")?;
+    separator(out)?;
     add_mode(alloc, out, machine)?;
     add_pc(out, machine)?;
     add_retired(alloc, out, machine)
@@ -132,7 +132,7 @@ fn add_progress(out: &mut Vec<u8>, machine: &Machine, progress: Progress) -> Res
 {
     text(out, b" | ")?;
     add_beats(out, progress.after)?;
-    text(out, b" ")?;
+    separator(out)?;
     add_instr(out, machine, progress.addr)
 }
 

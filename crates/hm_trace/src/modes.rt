@@ -7,7 +7,7 @@ ghost use Rattle.hm_trace.specs.Lines.{mode_text, numbers_text};
 use hm_base::OutOfMemory;
 use hm_exc::Activation;
 use hm_machine::Machine;
-use hm_text_base::{decimal, text};
+use hm_text_base::{decimal, separator, text};
 use std::alloc::Global;
 
 /// Adds a space and the number of each handler that is active, the oldest first.
@@ -15,7 +15,7 @@ fn add_numbers(alloc: Global, out: &mut Vec<u8>, active: &[Activation]) -> Resul
     ensures added { IfOk result (λ _. out.new.items ≡ out.old.items ++ numbers_text (reverse active.now)) }
 {
     for x in active {
-        text(out, b" ")?;
+        separator(out)?;
         decimal(alloc, out, u64::from(x.number))?;
     }
     Ok(())

@@ -20,7 +20,7 @@ use hm_base::OutOfMemory;
 use hm_machine::{Machine, Outcome};
 use hm_report::outcome_line;
 use hm_sched::print_tick;
-use hm_text_base::{decimal, hex8, text};
+use hm_text_base::{decimal, hex8, separator, text};
 use std::alloc::Global;
 
 /// How the page looks: a box of 12 pixels a beat, filled in the instruction's colour where the tick did it, and pale where it was done before; two columns of
@@ -145,7 +145,7 @@ fn add_group_text(out: &mut Vec<u8>, machine: &Machine, addr: u32) -> Result<(),
     ensures added { (listing : Listing) → IsListing (flash_at machine.now.memory) listing
         → IfOk result (λ _. out.new.items ≡ out.old.items ++ group_text listing addr) }
 {
-    text(out, b" ")?;
+    separator(out)?;
     add_instr(out, machine, addr)?;
     add_tag(out, Tag::GroupEnd)
 }
