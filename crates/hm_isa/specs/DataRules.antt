@@ -5,7 +5,7 @@ use Rattle.hm_isa.specs.declared.data.DataName.TheVariants as data_
 use Rattle.hm_isa.specs.Rules.{is_general}
 use Rattle.hm_isa.specs.Words.{imm5}
 
--- T1 and T2: ADD and SUB, and so CMN and CMP, alone take sp as their first register (DDI0553, "ADD (SP plus immediate)" and its kin)
+-- T1 and T2: ADD and SUB, and so CMN and CMP, alone take sp as their first register (DDI0553, "ADD (SP plus immediate)" and "SUB (SP minus immediate)")
 abbrev pub may_take_sp : DataName → Bool
 may_take_sp data_.Add = true
 may_take_sp data_.Sub = true

@@ -45,11 +45,11 @@ keeps_it c mask = nat_lt 0 mask && (not (nat_eq c 14) || nat_eq mask 8 || nat_eq
 abbrev pub is_general : ℕ → Bool
 is_general n = not (nat_eq n 13) && not (nat_eq n 15)
 
--- T9 and T10: neither of two registers is sp or pc (DDI0553, "SXTH", "REV" and their kin)
+-- neither of two registers is sp or pc
 abbrev pub are_general : ℕ → ℕ → Bool
 are_general d m = is_general d && is_general m
 
--- T8 and T11: none of three registers is sp or pc (DDI0553, "LSL (register)", "MUL", "SDIV" and their kin)
+-- none of three registers is sp or pc
 abbrev pub is_operation : ℕ → ℕ → ℕ → Bool
 is_operation n d m = is_general n && is_general d && is_general m
 
@@ -175,6 +175,6 @@ shift_has_sign name = false
 abbrev pub is_shifted_by : ConstantShiftName → ℕ → Bool
 is_shifted_by name u = shift_has_sign name || nat_eq u 0
 
--- V11: the highest bit that is 1 stands for a size of elements (DDI0553, "VSHR", "VSHL" and their kin)
+-- V11: the highest bit that is 1 stands for a size of elements (DDI0553, "VSHR", "VRSHR", "VQSHL, VQSHLU", "VSHL", "VSRI" and "VSLI")
 abbrev pub has_size : ℕ → Bool
 has_size x = nat_le 8 x

@@ -5,8 +5,8 @@ ghost use Rattle.hm_isa.specs.MemoryRules.{is_access, is_at_addresses, is_at_off
 
 use crate::fields::{Below, Bit, ElementSize, Low, QRegister, Register};
 
-/// Loads and stores of elements one after another, as `vldrb.u8 qd,[rn,#i]` and `vstrw.32 qd,[rn],#-4i`: DDI0553, "VLDRB, VLDRH,
-/// VLDRW" and "VSTRB, VSTRH, VSTRW", encodings T5 to T7.
+/// `vldrb`, `vldrh`, `vldrw`, `vstrb`, `vstrh`, `vstrw` of elements one after another, as `vldrb.u8 qd,[rn,#i]` and
+/// `vstrw.32 qd,[rn],#-4i`: DDI0553, "VLDRB, VLDRH, VLDRW" and "VSTRB, VSTRH, VSTRW", encodings T5 to T7.
 #[derive(Clone, Copy)]
 pub struct V24 {
     /// Whether the offset goes to the address of the access.
@@ -28,8 +28,8 @@ pub struct V24 {
     pub ghost rule: { IsTrue (is_contiguous p.value w.value n.value) },
 }
 
-/// Loads that widen and stores that narrow elements one after another, as `vldrb.u16 qd,[rn,#i]` and `vstrh.32 qd,[rn],#-2i`:
-/// DDI0553, "VLDRB, VLDRH, VLDRW" and "VSTRB, VSTRH, VSTRW", encodings T1 and T2.
+/// `vldrb`, `vldrh` that widen and `vstrb`, `vstrh` that narrow elements one after another, as `vldrb.u16 qd,[rn,#i]` and
+/// `vstrh.32 qd,[rn],#-2i`: DDI0553, "VLDRB, VLDRH, VLDRW" and "VSTRB, VSTRH, VSTRW", encodings T1 and T2.
 #[derive(Clone, Copy)]
 pub struct V25 {
     /// 1 for a load of unsigned elements; 0 for a store.
@@ -55,8 +55,9 @@ pub struct V25 {
     pub ghost rule: { IsTrue (is_widening u.value p.value w.value l.value h.value z.value) },
 }
 
-/// Loads and stores of elements at offsets in a vector, as `vldrh.u32 qd,[rn,qm]` and `vstrw.32 qd,[rn,qm,uxtw #2]`: DDI0553,
-/// "VLDRB, VLDRH, VLDRW, VLDRD (vector)", encodings T1 to T3, and "VSTRB, VSTRH, VSTRW, VSTRD (vector)", encodings T1 to T3.
+/// `vldrb`, `vldrh`, `vldrw`, `vstrb`, `vstrh`, `vstrw` of elements at offsets in a vector, as `vldrh.u32 qd,[rn,qm]` and
+/// `vstrw.32 qd,[rn,qm,uxtw #2]`: DDI0553, "VLDRB, VLDRH, VLDRW, VLDRD (vector)", encodings T1 to T3, and "VSTRB, VSTRH, VSTRW, VSTRD
+/// (vector)", encodings T1 to T3.
 #[derive(Clone, Copy)]
 pub struct V26 {
     /// 1 for a load of unsigned elements, or of elements as wide in memory; 0 for a store.
@@ -79,7 +80,7 @@ pub struct V26 {
     pub ghost access: { IsTrue (is_access u.value l.value d.value z.value y.value m.value) },
 }
 
-/// Loads and stores of words at addresses in a vector, as `vldrw.u32 qd,[qm,#4i]` and `vstrw.32 qd,[qm,#-4i]!`: DDI0553, "VLDRB,
+/// `vldrw`, `vstrw` of words at addresses in a vector, as `vldrw.u32 qd,[qm,#4i]` and `vstrw.32 qd,[qm,#-4i]!`: DDI0553, "VLDRB,
 /// VLDRH, VLDRW, VLDRD (vector)", encoding T5, and "VSTRB, VSTRH, VSTRW, VSTRD (vector)", encoding T5.
 #[derive(Clone, Copy)]
 pub struct V27 {
@@ -98,8 +99,8 @@ pub struct V27 {
     pub ghost rule: { IsTrue (is_at_addresses l.value m.value d.value) },
 }
 
-/// A part of a load or store of two or four registers whose elements take turns in memory, as `vld20.8 {q0,q1},[rn]` and
-/// `vst43.32 {q0,q1,q2,q3},[rn]!`: DDI0553, "VLD2", "VLD4", "VST2" and "VST4".
+/// `vld20`, `vld21`, `vld40` to `vld43`, `vst20`, `vst21`, `vst40` to `vst43`: a part of a load or store of two or four registers whose
+/// elements take turns in memory, as `vld20.8 {q0,q1},[rn]` and `vst43.32 {q0,q1,q2,q3},[rn]!`: DDI0553, "VLD2", "VLD4", "VST2" and "VST4".
 #[derive(Clone, Copy)]
 pub struct V28 {
     /// Whether the base gets the address behind all elements: 32 bytes on, or 64.

@@ -8,7 +8,7 @@ ghost use Rattle.hm_isa.specs.Rules.{has_size, is_reversed, is_shifted_by, is_si
 use crate::fields::{Below, Bit, ElementSize, QRegister, Register};
 use crate::words::zero_as_32;
 
-/// The size of the elements of V18 and of a sum of products of V21, where it tells codes apart as a name does: DDI0553, "VDUP"
+/// The size of the elements of V18 and of a sum of products of V22, where it tells codes apart as a name does: DDI0553, "VDUP"
 /// and "VMLADAV".
 #[derive(Clone, Copy)]
 pub enum Element {
@@ -123,8 +123,8 @@ pub enum VectorShiftName {
     Qrshl,
 }
 
-/// Shifts of elements by elements, as `vshl.s8 qd,qm,qn`: DDI0553, "VSHL", "VQSHL, VQSHLU", "VRSHL" and "VQRSHL". A count is
-/// the signed low byte of an element, and shifts to the right where it is negative.
+/// `vshl`, `vqshl`, `vrshl`, `vqrshl` of elements by elements, as `vshl.s8 qd,qm,qn`: DDI0553, "VSHL", "VQSHL, VQSHLU", "VRSHL" and
+/// "VQRSHL". A count is the signed low byte of an element, and shifts to the right where it is negative.
 #[derive(Clone, Copy)]
 pub struct V4 {
     pub name: VectorShiftName,
@@ -326,8 +326,8 @@ pub enum ConstantShiftName {
     Sli,
 }
 
-/// Shifts of elements by a constant, as `vshr.s8 qd,qm,#k`: DDI0553, "VSHR", "VRSHR", "VQSHL, VQSHLU", "VSHL", "VSRI"
-/// and "VSLI". `u` is 0 where the name says nothing of signs.
+/// `vshr`, `vrshr`, `vqshl`, `vqshlu`, `vshl`, `vsri`, `vsli` of elements by a constant, as `vshr.s8 qd,qm,#k`: DDI0553, "VSHR",
+/// "VRSHR", "VQSHL, VQSHLU", "VSHL", "VSRI" and "VSLI". `u` is 0 where the name says nothing of signs.
 #[derive(Clone, Copy)]
 pub struct V11 {
     pub name: ConstantShiftName,

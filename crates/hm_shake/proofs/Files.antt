@@ -1,7 +1,7 @@
 -- Files of kinds, one more.
 use Rattle.std.proofs.Common.{◌≡◌, ◌≢◌, ℕ, zero, suc, ◌+◌, ◌<◌, ◌≤◌, ◌∙◌, List, [], ◌∷◌, ◌++◌, append_assoc, ap, arith, drop, inl, inr, length}
 use Rattle.std.proofs.Common.{refl, slice_index_or, subst, sym}
-use Rattle.std.proofs.lemmas.List.{append-nil}
+use Rattle.std.proofs.lemmas.List.{append-nil, drop_all}
 use Rattle.hm_shake.specs.Findings.{AreFiled}
 use Rattle.hm_shake.specs.declared.filing.Written.{Written}
 use Rattle.hm_shake_runs.specs.declared.found.Found.{Found}
@@ -16,12 +16,6 @@ drop_next : (xs : List Found) (i : ℕ) (d : Found) → i < length xs → drop i
 drop_next xs i d h =
     let one_more : suc i ≡ i + 1 = omega arith in
     drop_at xs i d h ∙ ap (λ (n : ℕ). slice_index_or xs i d ∷ drop n xs) one_more
-
-drop_all : (xs : List Found) (i : ℕ) → length xs ≤ i → drop i xs ≡ []
-drop_all [] zero h = refl
-drop_all [] (suc i) h = refl
-drop_all (x ∷ xs) zero h = absurd (omega arith)
-drop_all (x ∷ xs) (suc i) h = drop_all xs i (omega arith)
 
 module _ (Is : Found → Written → Type 0) (plain : Kind) (kinds : List Found) where
   -- what holds of the files so far: with files of the kinds that are left behind them they are files of all
@@ -45,5 +39,5 @@ module _ (Is : Found → Written → Type 0) (plain : Kind) (kinds : List Found)
 
   pub all_filed : (i : ℕ) (files : List Written) → length kinds ≤ i → AreSoFar i files → AreFiled Is plain kinds files
   all_filed i files end so_far =
-      let none : AreFiled Is plain (drop i kinds) [] = subst (λ (ks : List Found). AreFiled Is plain ks []) (sym (drop_all kinds i end)) refl in
+      let none : AreFiled Is plain (drop i kinds) [] = subst (λ (ks : List Found). AreFiled Is plain ks []) (sym (drop_all i kinds end)) refl in
       subst (λ (ws : List Written). AreFiled Is plain kinds ws) (append-nil files) (so_far [] none)

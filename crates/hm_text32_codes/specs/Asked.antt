@@ -218,7 +218,8 @@ kind_operands (kind.Shift ty s) l = third_numbered l.d l.last (number_read l.ty 
 abbrev pub insert_operands : ℕ → ℕ → ℕ → ℕ → Operands
 insert_operands n d x e = cond (nat_eq n 15) (both_numbered d x (e + 1 - x) 0 0) (third_numbered d n x (e + 1 - x) 0)
 
--- T12: the operands of an access (DDI0553, "LDR (immediate)", "LDR (literal)", "LDR (register)" and the like of each)
+-- T12: the operands of STRB, STRH, STR, LDRB, LDRH, LDR, LDRSB and LDRSH
+-- (DDI0553, "LDR (immediate)", "LDR (literal)", "LDR (register)" and the like of each)
 abbrev pub access_operands : T12 → Operands
 access_operands (t12.Offset i) = placed true 1 1 0 i.t.value i.n.value i.i.value 0 0
 access_operands (t12.Indexed i) = placed true i.p.value i.u.value i.w.value i.t.value i.n.value i.i.value 0 0
@@ -345,8 +346,8 @@ pub record SystemCodes (s : List ℕ) (o : Operands) (code : Option ℕ) : Type 
   pub dlstp : IsCodeOf (λ i. wide.T23 (t23.Dlstp i)) s o code
   pub lctp : s ≡ codes "lctp" → code ≡ Some (wide_code (wide.T23 t23.Lctp))
 
--- T12 to T15, and the codes above: LDR, STR and their kin, LDRD, STRD, STMIA, LDMIA, STMDB, LDMDB, VPUSH and VPOP
--- (DDI0553, "LDR (immediate)", "LDR (literal)", "LDR (register)" and their kin, "STRD (immediate)", "LDRD (immediate)", "LDRD (literal)",
+-- T12 to T15, and the codes above: STRB, STRH, STR, LDRB, LDRH, LDR, LDRSB, LDRSH, LDRD, STRD, STMIA, LDMIA, STMDB, LDMDB, VPUSH and VPOP
+-- (DDI0553, "LDR (immediate)", "LDR (literal)", "LDR (register)" and the like of each, "STRD (immediate)", "LDRD (immediate)", "LDRD (literal)",
 -- "STM, STMIA, STMEA", "LDM, LDMIA, LDMFD", "STMDB, STMFD", "LDMDB, LDMEA", "VPUSH" and "VPOP")
 pub record MemoryCodes (s : List ℕ) (o : Operands) (code : Option ℕ) : Type 0 where
   pub offset : IsCodeOf (λ i. wide.T12 (t12.Offset i)) s o code

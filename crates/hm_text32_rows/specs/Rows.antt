@@ -111,7 +111,7 @@ product_tokens (t11.Accumulate i) = four (accumulate_mnemonic i.name) (r i.d.val
 product_tokens (t11.Long i) = four (long_mnemonic i.name) (r i.l.value) (r i.h.value) (r i.n.value) (r i.m.value)
 
 -- MEMORY
--- T12: the tokens of an access: `[rn,#i]`; with an index by P, U and W; `[rn,rm,lsl #i]`; `[pc,#i]`
+-- T12: the tokens of STRB, STRH, STR, LDRB, LDRH, LDR, LDRSB and LDRSH: `[rn,#i]`; with an index by P, U and W; `[rn,rm,lsl #i]`; `[pc,#i]`
 -- (DDI0553, "LDR (immediate)", "LDR (literal)", "LDR (register)" and the like of each)
 abbrev pub access_tokens : AccessRow → List Tok
 access_tokens (t12.Offset i) = word (access_mnemonic i.name ++ wide) ∷ r i.t.value ∷ comma ∷ inside 1 0 (r i.n.value) i.i.value

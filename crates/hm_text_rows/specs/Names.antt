@@ -30,7 +30,8 @@ abbrev pub block_masks : List ℕ
 block_masks = 1 ∷ 2 ∷ 3 ∷ 4 ∷ 5 ∷ 6 ∷ 7 ∷ 8 ∷ 9 ∷ 10 ∷ 11 ∷ 12 ∷ 13 ∷ 14 ∷ 15 ∷ []
 
 -- NAMES THAT ROWS OF ONE HALFWORD AND OF TWO SHARE
--- S2, S3, S10 and T3: ADD and SUB (DDI0553, "ADD (register)", "ADD (immediate)", "ADD (SP plus immediate)" and their kin)
+-- S2, S3, S10 and T3: ADD and SUB
+-- (DDI0553, "ADD (register)", "SUB (register)", "ADD (immediate)", "SUB (immediate)", "ADD (SP plus immediate)", "SUB (SP minus immediate)" and "ADR")
 abbrev pub sum_names : List SumName
 sum_names = sum_.Add ∷ sum_.Sub ∷ []
 
@@ -39,6 +40,6 @@ abbrev pub extend_names : List ExtendName
 extend_names = extend.Sxth ∷ extend.Sxtb ∷ extend.Uxth ∷ extend.Uxtb ∷ []
 
 -- S15 and T12: STR, STRH, STRB, LDRSB, LDR, LDRH, LDRB and LDRSH
--- (DDI0553, "STR (register)", "LDR (immediate)", "LDR (literal)", "LDR (register)" and their kin)
+-- (DDI0553, "STR (register)", "LDR (immediate)", "LDR (literal)", "LDR (register)" and the like of each)
 abbrev pub access_names : List AccessName
 access_names = access.Str ∷ access.Strh ∷ access.Strb ∷ access.Ldrsb ∷ access.Ldr ∷ access.Ldrh ∷ access.Ldrb ∷ access.Ldrsh ∷ []

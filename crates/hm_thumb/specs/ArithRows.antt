@@ -40,7 +40,8 @@ wide_shift_of wide_shift.Lsr = type.Lsr
 wide_shift_of wide_shift.Asr = type.Asr
 wide_shift_of wide_shift.Ror = type.Ror
 
--- T8: register d gets what was shifted, and the flags tell it where s is 1, in an IT block too (DDI0553, "LSL (register)" and its kin)
+-- T8: register d gets what was shifted, and the flags tell it where s is 1, in an IT block too
+-- (DDI0553, "LSL (register)", "LSR (register)", "ASR (register)" and "ROR (register)")
 abbrev pub put_told : ℕ → ℕ → Shifted → Regs → Regs
 put_told s d x r = let t = put d x.result r in cond (nat_eq s 1) (with_nzc x t) t
 

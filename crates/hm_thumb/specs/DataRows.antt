@@ -45,7 +45,7 @@ put_logical s d x carry r = let t = put_if d x r in cond (nat_eq s 1) (with_nzc 
 abbrev pub put_data_sum : ℕ → ℕ → Sum → Regs → Regs
 put_data_sum s d x r = let t = put_if d x.result r in cond (nat_eq s 1) (with_nzcv x t) t
 
--- T1 and T2: AND to RSB with s, d, the first operand and the second, whose carry is what C gets of logical operations
+-- T1 and T2: AND, BIC, ORR, ORN, EOR, ADD, ADC, SBC, SUB and RSB with s, d, the first operand and the second, whose carry is what C gets of logical operations
 -- (DDI0553, "Data-processing (modified immediate)" and "Data-processing (shifted register)")
 abbrev pub data_row : DataName → ℕ → ℕ → ℕ → Shifted → Regs → Regs
 data_row data_.And s d x y r = put_logical s d (bit_and x y.result) y.carry r
@@ -63,7 +63,7 @@ data_row data_.Rsb s d x y r = put_data_sum s d (add_with_carry (inverted x) y.r
 abbrev pub t1 : T1 → Regs → Regs
 t1 i r = data_row i.name i.s.value i.d.value (reg_or_zero i.n.value r) (expand_imm_c (imm12 i.i.value i.i3.value i.i8.value) r.c) r
 
--- T2: AND, BIC, ORR, ORN, EOR, ADD, ADC, SBC, SUB, RSB, MOV, MVN, TST, TEQ, CMN, CMP and the shifts with a shifted register
+-- T2: AND, BIC, ORR, ORN, EOR, ADD, ADC, SBC, SUB, RSB, MOV, MVN, LSL, LSR, ASR, ROR, RRX, TST, TEQ, CMN and CMP with a shifted register
 -- (DDI0553, "Data-processing (shifted register)")
 abbrev pub t2 : T2 → Regs → Regs
 t2 i r =
