@@ -1,13 +1,17 @@
-//! Command lines on a host in memory, and calls on hosts, compared with what files say that they come to.
+//! Command lines on a host in memory, and calls on hosts, compared with what files say that they come to; and the shipped examples and the soak.
 #![tactic(auto)]
 
 mod content;
 mod cut;
+mod examples;
 mod named;
 mod session;
+mod shakes;
+mod soaks;
 mod trial;
 
 use anyhow::{Context, Result};
+use examples::write_word;
 use hm_host::OsHost;
 use session::{Session, Taken};
 use std::io::{BufWriter, Write};
@@ -56,14 +60,18 @@ fn write_file<W: Write>(out: &mut W, session: &mut Session, name: &str, text: &s
     Ok(())
 }
 
-/// Takes the files that are named.
+/// Takes the words: one that ends in `.txt` names a file, any other an example.
 fn main(rt: HostRuntime) -> Result<()> {
     let alloc = rt.alloc();
     let mut out = BufWriter::new(alloc, io::writer(&rt))?;
-    for name in env::args(&rt)?.skip(1) {
-        let text = fs::read_to_string(&rt, &name)?;
-        let mut session = Session::new(alloc, OsHost::new(rt.clone()?));
-        write_file(&mut out, &mut session, &name, &text)?;
+    for word in env::args(&rt)?.skip(1) {
+        if word.ends_with(".txt") {
+            let text = fs::read_to_string(&rt, &word)?;
+            let mut session = Session::new(alloc, OsHost::new(rt.clone()?));
+            write_file(&mut out, &mut session, &word, &text)?;
+        } else {
+            write_word(&mut out, &rt, &word)?;
+        }
     }
     out.flush()?;
     Ok(())

@@ -3,7 +3,7 @@ use Rattle.std.specs.List.{All}
 use Rattle.std.proofs.lemmas.List.Elements.{All-same}
 use Rattle.hm_sched.specs.Schedule.{most_irq}
 use Rattle.hm_shake_runs.specs.Stretches.{IsStretch}
-use Rattle.hm_examples.proofs.shakes.interrupts_of_run.Goals as goal
+use Rattle.hm_sessions.proofs.shakes.interrupts_of_run.Goals as goal
 
 -- the stretches of a run have a tick at least
 pub cut-requires : goal.cut-requires

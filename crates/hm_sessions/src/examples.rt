@@ -1,10 +1,8 @@
 //! Assembles the shipped examples, runs each under its schedule, and prints what they come to, the plan of the instructions that were run, and the
 //! rows of a page of two ticks; or shakes them; or runs the code of a soak, so that it can be timed.
-#![tactic(auto)]
 
-mod shakes;
-mod soaks;
-
+use crate::shakes::write_shake;
+use crate::soaks::write_soak;
 use anyhow::{Context, Result, bail, ensure};
 use hm_asm::assemble;
 use hm_base::Image;
@@ -12,12 +10,10 @@ use hm_machine::Machine;
 use hm_plan::plan;
 use hm_sched::{parse, print};
 use hm_trace::{Form, Ticks, trace};
-use shakes::write_shake;
-use soaks::write_soak;
 use std::alloc::Global;
-use std::io::{BufWriter, Write};
+use std::fs;
+use std::io::Write;
 use std::ops::Range;
-use std::{env, fs, io};
 
 /// The most bytes that a source may have.
 const LONGEST: usize = 16_777_216;
@@ -130,27 +126,21 @@ fn asked(word: &str) -> Result<(&str, Option<u32>)> {
     }
 }
 
-/// Takes the examples that are named: one is run, and one behind a number and a colon is shaken in so many runs. Behind `soak:` stands which soak is run.
-fn main(rt: HostRuntime) -> Result<()> {
+/// Takes the example that is named: it is run, and behind a number and a colon it is shaken in so many runs. Behind `soak:` stands which soak is run.
+pub fn write_word<W: Write>(out: &mut W, rt: &HostRuntime, word: &str) -> Result<()> {
     let alloc = rt.alloc();
-    let mut out = BufWriter::new(alloc, io::writer(&rt))?;
-    for word in env::args(&rt)?.skip(1) {
-        if let Some(soak) = word.strip_prefix("soak:") {
-            write_soak(&mut out, alloc, soak)?;
-        } else {
-            let (name, runs) = asked(&word)?;
-            let source = fs::read(&rt, &format!(in alloc; "{name}.s")?)?;
-            let schedule = fs::read(&rt, &format!(in alloc; "{name}.sched")?)?;
-            let image = image_of(alloc, &source).context(format_args!("{name}"))?;
-            match runs {
-                Some(runs) => {
-                    let schedule = parse(alloc, &schedule)?;
-                    write_shake(&mut out, alloc, name, &image, &schedule, runs)?;
-                }
-                None => write_run(&mut out, alloc, name, &image, &schedule)?,
-            }
-        }
+    if let Some(soak) = word.strip_prefix("soak:") {
+        return write_soak(out, alloc, soak);
     }
-    out.flush()?;
-    Ok(())
+    let (name, runs) = asked(word)?;
+    let source = fs::read(rt, &format!(in alloc; "{name}.s")?)?;
+    let schedule = fs::read(rt, &format!(in alloc; "{name}.sched")?)?;
+    let image = image_of(alloc, &source).context(format_args!("{name}"))?;
+    match runs {
+        Some(runs) => {
+            let schedule = parse(alloc, &schedule)?;
+            write_shake(out, alloc, name, &image, &schedule, runs)
+        }
+        None => write_run(out, alloc, name, &image, &schedule),
+    }
 }
