@@ -203,7 +203,7 @@ abbrev pub code_s4 : S4 → ℕ
 code_s4 r = byte_base r.name + r.d.value ↑ 8 + r.i.value
 
 -- S5: the code of ANDS, EORS, LSLS, LSRS, ASRS, ADCS, SBCS, RORS, TST, RSBS, CMP, CMN, ORRS, MULS, BICS and MVNS, their registers 0
--- (DDI0553, their register forms, "RSB (immediate)" and "MUL")
+-- (DDI0553, the register form of each, as "AND (register)", "RSB (immediate)" and "MUL")
 abbrev pub logic_base : LogicName → ℕ
 logic_base logic.Ands = 0x4000
 logic_base logic.Eors = 0x4040
@@ -223,11 +223,11 @@ logic_base logic.Bics = 0x4380
 logic_base logic.Mvns = 0x43c0
 
 -- S5: ANDS, EORS, LSLS, LSRS, ASRS, ADCS, SBCS, RORS, TST, RSBS, CMP, CMN, ORRS, MULS, BICS and MVNS of two low registers
--- (DDI0553, their register forms, "RSB (immediate)" and "MUL")
+-- (DDI0553, the register form of each, as "AND (register)", "RSB (immediate)" and "MUL")
 abbrev pub code_s5 : S5 → ℕ
 code_s5 r = logic_base r.name + r.m.value ↑ 3 + r.d.value
 
--- S6: ADD of registers, high ones too (DDI0553, "ADD (register)")
+-- S6: ADD of registers, high ones too (DDI0553, "ADD (register)" and "ADD (SP plus register)")
 abbrev pub code_s6 : S6 → ℕ
 code_s6 r = 0x4400 + (r.d.value / 8) ↑ 7 + r.m.value ↑ 3 + r.d.value % 8
 
@@ -421,7 +421,8 @@ code_shifted r = wide_access_base r.name + r.n.value ↑ 16 + r.t.value ↑ 12 +
 abbrev pub code_literal : Literal → ℕ
 code_literal r = wide_access_base r.name + 0x000f0000 + r.u.value ↑ 23 + r.t.value ↑ 12 + r.i.value
 
--- T12: STR, STRH, STRB, LDR, LDRH, LDRB, LDRSH, LDRSB (DDI0553, the immediate, literal and register form of each, as "LDR (immediate)")
+-- T12: STR, STRH, STRB, LDR, LDRH, LDRB, LDRSH, LDRSB
+-- (DDI0553, the immediate and register form of each, and the literal form of each load, as "LDR (immediate)", "LDR (register)" and "LDR (literal)")
 abbrev pub code_t12 : T12 → ℕ
 code_t12 (t12.Offset r) = code_offset r
 code_t12 (t12.Indexed r) = code_indexed r

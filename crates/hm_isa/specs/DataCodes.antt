@@ -43,12 +43,15 @@ abbrev pub code_t2 : T2 → ℕ
 code_t2 r =
     0xea000000 + data_operation r.name ↑ 21 + r.s.value ↑ 20 + r.n.value ↑ 16 + r.i3.value ↑ 12 + r.d.value ↑ 8 + r.i2.value ↑ 6 + r.ty.value ↑ 4 + r.m.value
 
--- T3: the code of ADDW and SUBW, their registers and constant 0 (DDI0553, "ADD (immediate)" and "SUB (immediate)", encodings T4)
+-- T3: the code of ADDW and SUBW, their registers and constant 0
+-- (DDI0553, "ADD (immediate)" and "ADD (SP plus immediate)", encodings T4, "SUB (immediate)", encoding T4, "SUB (SP minus immediate)", encoding T3)
 abbrev pub wide_sum_base : SumName → ℕ
 wide_sum_base sum_.Add = 0xf2000000
 wide_sum_base sum_.Sub = 0xf2a00000
 
--- T3: ADDW, SUBW and ADR with a constant of twelve bits (DDI0553, "ADD (immediate)", "SUB (immediate)" and "ADR")
+-- T3: ADDW, SUBW and ADR with a constant of twelve bits
+-- (DDI0553, "ADD (immediate)" and "ADD (SP plus immediate)", encodings T4, "SUB (immediate)", encoding T4, "SUB (SP minus immediate)", encoding T3,
+-- and "ADR", encodings T2 and T3)
 abbrev pub code_t3 : T3 → ℕ
 code_t3 r = wide_sum_base r.name + r.i.value ↑ 26 + r.n.value ↑ 16 + r.i3.value ↑ 12 + r.d.value ↑ 8 + r.i8.value
 

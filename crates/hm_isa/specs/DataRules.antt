@@ -5,20 +5,21 @@ use Rattle.hm_isa.specs.declared.data.DataName.TheVariants as data_
 use Rattle.hm_isa.specs.Rules.{is_general}
 use Rattle.hm_isa.specs.Words.{imm5}
 
--- T1 and T2: ADD and SUB, and so CMN and CMP, alone take sp as their first register (DDI0553, "ADD (SP plus immediate)" and "SUB (SP minus immediate)")
+-- T1 and T2: ADD and SUB, and so CMN and CMP, alone take sp as their first register
+-- (DDI0553, "ADD (SP plus immediate)", "SUB (SP minus immediate)", "ADD (SP plus register)" and "SUB (SP minus register)")
 abbrev pub may_take_sp : DataName → Bool
 may_take_sp data_.Add = true
 may_take_sp data_.Sub = true
 may_take_sp name = false
 
--- T1 and T2: with no first register ORR is MOV, and ORN is MVN (DDI0553, "MOV (immediate)", "MVN (immediate)" and their register forms)
+-- T1 and T2: with no first register ORR is MOV, and ORN is MVN (DDI0553, "MOV (immediate)", "MOV (register)", "MVN (immediate)" and "MVN (register)")
 abbrev pub may_take_none : DataName → Bool
 may_take_none data_.Orr = true
 may_take_none data_.Orn = true
 may_take_none name = false
 
 -- T1 and T2: with no register for the result AND, EOR, ADD and SUB are TST, TEQ, CMN and CMP
--- (DDI0553, "TST (immediate)", "TEQ (immediate)", "CMN (immediate)", "CMP (immediate)" and their register forms)
+-- (DDI0553, the immediate and register form of each, as "TST (immediate)" and "TST (register)")
 abbrev pub may_test : DataName → Bool
 may_test data_.And = true
 may_test data_.Eor = true
@@ -60,7 +61,8 @@ is_shifted_row name s n d i3 i2 ty m =
     (is_first name n && is_result name s n d && is_general m && (not (nat_eq d 13) || (nat_eq i3 0 && nat_eq ty 0)))
     || is_stack_move name s n d i3 i2 ty m
 
--- T3: sp gets what ADDW and SUBW added to it or took from it (DDI0553, "ADD (immediate)" and "SUB (immediate)", encodings T4)
+-- T3: sp gets what ADDW and SUBW added to it or took from it
+-- (DDI0553, "ADD (SP plus immediate)", encoding T4, and "SUB (SP minus immediate)", encoding T3)
 abbrev pub is_wide_sum : ℕ → ℕ → Bool
 is_wide_sum n d = is_general d || (nat_eq d 13 && nat_eq n 13)
 

@@ -25,7 +25,8 @@ abbrev pub base_register : BaseName → ℕ
 base_register base.Pc = 15
 base_register base.Sp = 13
 
--- S15 to S17 and T12: how many bytes STR, STRH, STRB, LDRSB, LDR, LDRH, LDRB and LDRSH access (DDI0553, "LDR (immediate)" and the like of each)
+-- S15 to S17 and T12: how many bytes STR, STRH, STRB, LDRSB, LDR, LDRH, LDRB and LDRSH access
+-- (DDI0553, the immediate form of each, as "LDR (immediate)")
 abbrev pub access_size : AccessName → ℕ
 access_size access.Str = 4
 access_size access.Strh = 2

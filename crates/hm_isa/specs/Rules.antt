@@ -17,7 +17,7 @@ use Rattle.hm_isa.specs.declared.vectors.ConstantShiftName.TheVariants as by_con
 use Rattle.hm_isa.specs.declared.vectors.ReverseName.{ReverseName}
 use Rattle.hm_isa.specs.declared.vectors.ReverseName.TheVariants as reverse_
 
--- S6: not both registers of ADD are pc (DDI0553, "ADD (register)")
+-- S6: not both registers of ADD are pc (DDI0553, "ADD (register)" and "ADD (SP plus register)")
 abbrev pub keeps_high : ℕ → ℕ → Bool
 keeps_high d m = not (nat_eq d 15 && nat_eq m 15)
 
@@ -70,33 +70,34 @@ abbrev pub is_system_move : SystemMoveName → ℕ → Bool
 is_system_move move.ReadFpscr t = not (nat_eq t 13)
 is_system_move name t = is_general t
 
--- S14 to S17 and T12: whether an access is LDR, LDRH, LDRB, LDRSH or LDRSB (DDI0553, "LDR (immediate)" and the like of each)
+-- S14 to S17 and T12: whether an access is LDR, LDRH, LDRB, LDRSH or LDRSB (DDI0553, the immediate form of each, as "LDR (immediate)")
 abbrev pub is_load : AccessName → Bool
 is_load access.Str = false
 is_load access.Strh = false
 is_load access.Strb = false
 is_load name = true
 
--- T12: sp is loaded and stored only by LDR and STR; pc is never stored, and loaded only by LDR (DDI0553, "LDR (immediate)" and the like of each)
+-- T12: sp is loaded and stored only by LDR and STR; pc is never stored, and loaded only by LDR
+-- (DDI0553, the immediate form of each, as "LDR (immediate)")
 abbrev pub is_data : AccessName → ℕ → Bool
 is_data access.Ldr t = true
 is_data access.Str t = not (nat_eq t 15)
 is_data name t = is_general t
 
--- T12: pc is the base only of literals, which are only loaded (DDI0553, "LDR (literal)" and the like of each)
+-- T12: pc is the base only of literals, which are only loaded (DDI0553, the literal form of each, as "LDR (literal)")
 abbrev pub is_offset : AccessName → ℕ → ℕ → Bool
 is_offset name n t = not (nat_eq n 15) && is_data name t
 
 -- T12: an index is written back to a register that is not the one stored or loaded, or it is taken off
--- (DDI0553, "LDR (immediate)" and the like of each)
+-- (DDI0553, the immediate form of each, as "LDR (immediate)")
 abbrev pub is_indexed : AccessName → ℕ → ℕ → ℕ → ℕ → ℕ → Bool
 is_indexed name n t p u w = is_offset name n t && (if nat_eq w 1 then not (nat_eq n t) else nat_eq p 1 && nat_eq u 0)
 
--- T12: an offset in a register is in neither sp nor pc, and the base is not pc (DDI0553, "LDR (register)" and the like of each)
+-- T12: an offset in a register is in neither sp nor pc, and the base is not pc (DDI0553, the register form of each, as "LDR (register)")
 abbrev pub is_shifted : AccessName → ℕ → ℕ → ℕ → Bool
 is_shifted name n t m = is_offset name n t && is_general m
 
--- T12: a literal is only loaded, and to a register that the load may have (DDI0553, "LDR (literal)" and the like of each)
+-- T12: a literal is only loaded, and to a register that the load may have (DDI0553, the literal form of each, as "LDR (literal)")
 abbrev pub is_literal : AccessName → ℕ → Bool
 is_literal name t = is_load name && is_data name t
 

@@ -69,8 +69,8 @@ pub struct T2 {
     pub ghost rules: { IsTrue (is_shifted_row name s.value n.value d.value i3.value i2.value ty.value m.value) },
 }
 
-/// `addw`, `subw rd,rn,#i12`, where `i`, `i3` and `i8` make the number: DDI0553, "ADD (immediate)", encoding T4, "SUB (immediate)",
-/// encoding T4, and "ADR", encodings T2 and T3.
+/// `addw`, `subw rd,rn,#i12`, where `i`, `i3` and `i8` make the number: DDI0553, "ADD (immediate)" and "ADD (SP plus
+/// immediate)", encodings T4, "SUB (immediate)", encoding T4, "SUB (SP minus immediate)", encoding T3, and "ADR", encodings T2 and T3.
 #[derive(Clone, Copy)]
 pub struct T3 {
     pub name: SumName,

@@ -4,7 +4,7 @@ ghost use Rattle.std.specs.Prelude.{◌≢◌};
 
 use crate::fields::{Below, Bit, Register};
 
-/// `beq.w label` and so on under condition `c`. The distance in bytes from the address plus 4 is `s:j2:j1:i6:i11:0`, with sign
+/// `b.w label` under condition `c`, as `beq.w label`. The distance in bytes from the address plus 4 is `s:j2:j1:i6:i11:0`, with sign
 /// `s`. T16: DDI0553, "B", encoding T3.
 #[derive(Clone, Copy)]
 pub struct WideConditional {
@@ -81,7 +81,7 @@ pub struct Wls {
     pub ghost not_pc: { n.value ≢ 15 },
 }
 
-/// `dlstp.8 lr,rn` and so on, for elements of 8, 16, 32 and 64 bits as `z` is 0 to 3. T23: DDI0553, "WLS, DLS, WLSTP, DLSTP".
+/// `dlstp.8`, `dlstp.16`, `dlstp.32`, `dlstp.64 lr,rn`, for elements of 8, 16, 32 and 64 bits as `z` is 0 to 3. T23: DDI0553, "WLS, DLS, WLSTP, DLSTP".
 #[derive(Clone, Copy)]
 pub struct Dlstp {
     pub z: Below<4>,
@@ -90,7 +90,7 @@ pub struct Dlstp {
     pub ghost not_pc: { n.value ≢ 15 },
 }
 
-/// `wlstp.8 lr,rn,label` and so on, forward by 2v from the address plus 4. T23: DDI0553, "WLS, DLS, WLSTP, DLSTP".
+/// `wlstp.8`, `wlstp.16`, `wlstp.32`, `wlstp.64 lr,rn,label`, forward by 2v from the address plus 4. T23: DDI0553, "WLS, DLS, WLSTP, DLSTP".
 #[derive(Clone, Copy)]
 pub struct Wlstp {
     pub z: Below<4>,

@@ -286,9 +286,9 @@ pub enum Branch {
     S23(S23),
     /// `cbz`, `cbnz rn,label`
     S24(S24),
-    /// `beq label` and so on, `b label`
+    /// `b label`, under a condition or none
     S25(S25),
-    /// `b.w`, `bl`, `beq.w` and so on
+    /// `b.w label`, under a condition or none, and `bl label`
     T16(T16),
     /// `tbb`, `tbh`
     T17(T17),

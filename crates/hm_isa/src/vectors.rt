@@ -586,7 +586,7 @@ impl V17 {
     }
 }
 
-/// `vdup.32 qd,rt`: DDI0553, "VDUP".
+/// `vdup.8`, `vdup.16`, `vdup.32 qd,rt`: DDI0553, "VDUP".
 #[derive(Clone, Copy)]
 pub struct V18 {
     /// The size of the elements.

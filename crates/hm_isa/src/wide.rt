@@ -58,8 +58,8 @@ pub struct Literal {
     pub ghost rules: { IsTrue (is_literal name t.value) },
 }
 
-/// A load or store of a byte, a halfword or a word: DDI0553, the immediate, register and literal form of each, as "LDR (immediate)",
-/// "LDR (register)" and "LDR (literal)", encodings T1 to T4.
+/// A load or store of a byte, a halfword or a word: DDI0553, the immediate and register form of each, and the literal form of each load, as
+/// "LDR (immediate)", "LDR (register)" and "LDR (literal)", encodings T1 to T4.
 #[derive(Clone, Copy)]
 pub enum T12 {
     Offset(Offset),

@@ -171,7 +171,7 @@ moves_leaf i x b ns es advance = record {
   mark = None;
 }
 
--- V24 to V28: VLDRB to VLD4 and VSTRB to VST4: beat b of a row
+-- V24 to V28: VLDRB, VLDRH, VLDRW, VSTRB, VSTRH, VSTRW, VLD2, VLD4, VST2 and VST4: beat b of a row
 -- (DDI0553, "VLDRB, VLDRH, VLDRW", "VSTRB, VSTRH, VSTRW", "VLDRB, VLDRH, VLDRW, VLDRD (vector)", "VSTRB, VSTRH, VSTRW, VSTRD (vector)",
 -- "VLD2", "VLD4", "VST2" and "VST4")
 abbrev pub moves_tree : Moves → Around → ℕ → Tree
@@ -249,7 +249,8 @@ moved i s =
 abbrev pub all_elements : Moves → State → List Element
 all_elements i s = elements_at i 0 s ++ elements_at i 1 s ++ elements_at i 2 s ++ elements_at i 3 s
 
--- V24 to V28: VLDRB to VLD4 and VSTRB to VST4: what four beats come to: the first active element that has a fault gives it, and else all are moved
+-- V24 to V28: VLDRB, VLDRH, VLDRW, VSTRB, VSTRH, VSTRW, VLD2, VLD4, VST2 and VST4: what four beats come to:
+-- the first active element that has a fault gives it, and else all are moved
 -- (DDI0553, "VLDRB, VLDRH, VLDRW", "VSTRB, VSTRH, VSTRW", "VLDRB, VLDRH, VLDRW, VLDRD (vector)", "VSTRB, VSTRH, VSTRW, VSTRD (vector)",
 -- "VLD2", "VLD4", "VST2" and "VST4")
 abbrev pub moves_by_words : Moves → State → Result State Fault

@@ -35,8 +35,8 @@ pub data Found : Type 0 where
   -- in turn for two registers from d on, or for four, from the base in n: one part of as many as there are registers
   interleaved : (d n : ℕ) (four : Bool) (part : ℕ) (back : Bool) → Found
 
--- V24 to V28: VLDRB to VLD4 and VSTRB to VST4: what a row moves: it stores or loads elements, whose size in memory and in their register it says,
--- with their sign or without
+-- V24 to V28: VLDRB, VLDRH, VLDRW, VSTRB, VSTRH, VSTRW, VLD2, VLD4, VST2 and VST4: what a row moves:
+-- it stores or loads elements, whose size in memory and in their register it says, with their sign or without
 -- (DDI0553, "VLDRB, VLDRH, VLDRW", "VSTRB, VSTRH, VSTRW", "VLDRB, VLDRH, VLDRW, VLDRD (vector)", "VSTRB, VSTRH, VSTRW, VSTRD (vector)",
 -- "VLD2", "VLD4", "VST2" and "VST4")
 pub record Transfer : Type 0 where
@@ -110,7 +110,7 @@ way_writes_lr (at_offsets d n m scale) = false
 way_writes_lr (at_addresses d m offset back) = false
 way_writes_lr (interleaved d n four part back) = back && eqb n 14
 
--- V24 to V28: VLDRB to VLD4 and VSTRB to VST4: a row as what each beat moves
+-- V24 to V28: VLDRB, VLDRH, VLDRW, VSTRB, VSTRH, VSTRW, VLD2, VLD4, VST2 and VST4: a row as what each beat moves
 -- (DDI0553, "VLDRB, VLDRH, VLDRW", "VSTRB, VSTRH, VSTRW", "VLDRB, VLDRH, VLDRW, VLDRD (vector)", "VSTRB, VSTRH, VSTRW, VSTRD (vector)",
 -- "VLD2", "VLD4", "VST2" and "VST4")
 abbrev pub moves_by : Transfer → Moves
@@ -142,7 +142,7 @@ transfer_of m = record { store = m.store; memory = m.memory; register = m.regist
 abbrev pub moves_of : Move → Moves
 moves_of m = moves_by (transfer_of m)
 
--- V24 to V28: VLDRB to VLD4 and VSTRB to VST4: beat b of a row, by what the code holds
+-- V24 to V28: VLDRB, VLDRH, VLDRW, VSTRB, VSTRH, VSTRW, VLD2, VLD4, VST2 and VST4: beat b of a row, by what the code holds
 -- (DDI0553, "VLDRB, VLDRH, VLDRW", "VSTRB, VSTRH, VSTRW", "VLDRB, VLDRH, VLDRW, VLDRD (vector)", "VSTRB, VSTRH, VSTRW, VSTRD (vector)",
 -- "VLD2", "VLD4", "VST2" and "VST4")
 abbrev pub move_tree : Move → Around → ℕ → Tree

@@ -114,8 +114,8 @@ abbrev pub transferred : Transfer → List Bool → List ℕ → State → List 
 transferred t ps addrs s = cond t.store (element_bytes t.memory ps addrs (stored_elements t.register t.found s))
     (filled_registers t.register t.found (loaded_elements (loaded t s) ps addrs))
 
--- V24 to V28: VLDRB to VLD4 and VSTRB to VST4: the first element that has a fault gives it; else all elements are moved, the base or the addresses are
--- written back, and the masks advance
+-- V24 to V28: VLDRB, VLDRH, VLDRW, VSTRB, VSTRH, VSTRW, VLD2, VLD4, VST2 and VST4: the first element that has a fault gives it;
+-- else all elements are moved, the base or the addresses are written back, and the masks advance
 -- (DDI0553, "VLDRB, VLDRH, VLDRW", "VSTRB, VSTRH, VSTRW", "VLDRB, VLDRH, VLDRW, VLDRD (vector)", "VSTRB, VSTRH, VSTRW, VSTRD (vector)",
 -- "VLD2", "VLD4", "VST2" and "VST4")
 abbrev pub transfer_whole : Transfer → State → Result State Fault

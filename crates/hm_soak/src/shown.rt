@@ -49,8 +49,7 @@ fn line(
     add_number(alloc, &mut out, b" instructions ", retired)?;
     add_number(alloc, &mut out, b" ticks ", ticks as u64)?;
     add_number(alloc, &mut out, b" entries ", entries as u64)?;
-    text(&mut out, b" ")?;
-    text(&mut out, if same { b"equal" } else { b"differ" })?;
+    text(&mut out, if same { b" equal" } else { b" differ" })?;
     text(&mut out, b"\n")?;
     Ok(out)
 }

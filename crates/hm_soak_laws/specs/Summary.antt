@@ -29,12 +29,12 @@ entered listing image s (suc t) = entered listing image s t + cond (in_thread (r
 
 -- the last word of a summary: whether both runs show the same
 abbrev pub verdict : Bool → List ℕ
-verdict same = cond same (codes "equal") (codes "differ")
+verdict same = cond same (codes " equal") (codes " differ")
 
 -- soak NUMBER instructions N ticks T entries E equal, or differ in place of equal
 abbrev pub summary_text : ℕ → ℕ → ℕ → ℕ → Bool → List ℕ
 summary_text number n t e same =
-    codes "soak " ++ decimal number ++ codes " instructions " ++ decimal n ++ codes " ticks " ++ decimal t ++ codes " entries " ++ decimal e ++ codes " "
+    codes "soak " ++ decimal number ++ codes " instructions " ++ decimal n ++ codes " ticks " ++ decimal t ++ codes " entries " ++ decimal e
     ++ verdict same ++ codes "\n"
 
 -- the run of the image under the schedule of the soak

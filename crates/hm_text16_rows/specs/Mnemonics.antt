@@ -48,7 +48,7 @@ byte_mnemonic byte.Add = codes "adds"
 byte_mnemonic byte.Sub = codes "subs"
 
 -- S5: the mnemonic of each name, ANDS, EORS, LSLS, LSRS, ASRS, ADCS, SBCS, RORS, TST, RSBS, CMP, CMN, ORRS, MULS, BICS and MVNS
--- (DDI0553, the register form of each, "RSB (immediate)" and "MUL")
+-- (DDI0553, the register form of each, as "AND (register)", "RSB (immediate)" and "MUL")
 abbrev pub logic_mnemonic : LogicName → List ℕ
 logic_mnemonic logic.Ands = codes "ands"
 logic_mnemonic logic.Eors = codes "eors"

@@ -44,7 +44,7 @@ jump_tokens (s25.Conditional i) = word (branch_mnemonic i.c.value) ∷ []
 jump_tokens (s25.Always i) = word (codes "b") ∷ []
 
 -- the tokens of each row; of S14, S24 and S25, which have a label, those before it; S6: ADD, S7: CMP, S8: MOV, S9: ADD, S14: LDR, S18: BKPT
--- (DDI0553, "ADD (register)", "CMP (register)", "MOV (register)", "ADR", "ADD (SP plus immediate)", "LDR (literal)" and "BKPT")
+-- (DDI0553, "ADD (register)", "ADD (SP plus register)", "CMP (register)", "MOV (register)", "ADR", "ADD (SP plus immediate)", "LDR (literal)" and "BKPT")
 abbrev pub row_tokens : NarrowRow → List Tok
 row_tokens (narrow.S1 i) = and_constant (two (shift_mnemonic i.name) (r i.d.value) (r i.m.value)) (shift_amount i.name i.i.value)
 row_tokens (narrow.S2 i) = three (sum_mnemonic i.name) (r i.d.value) (r i.n.value) (r i.m.value)

@@ -83,7 +83,8 @@ abbrev pub single_kind : DataName → ℕ → ℕ → ℕ → DataKind
 single_kind data_.Orr s ty k = if is_by_carry ty k then kind.Carry s else if is_unshifted ty k then kind.Move data_.Orr s else kind.Shift ty s
 single_kind name s ty k = kind.Move name s
 
--- T1 and T2: what the mnemonic of AND to RSB says, by the registers that stand for none
+-- T1 and T2: what the mnemonic of AND, BIC, ORR, ORN, EOR, ADD, ADC, SBC, SUB, RSB, TST, TEQ, CMN, CMP, MOV, MVN, LSL, LSR, ASR, ROR and RRX says,
+-- by the registers that stand for none
 -- (DDI0553, "Data-processing (modified immediate)" and "Data-processing (shifted register)")
 abbrev pub kind_of : Letters → DataKind
 kind_of l =
@@ -219,7 +220,7 @@ abbrev pub insert_operands : ℕ → ℕ → ℕ → ℕ → Operands
 insert_operands n d x e = cond (nat_eq n 15) (both_numbered d x (e + 1 - x) 0 0) (third_numbered d n x (e + 1 - x) 0)
 
 -- T12: the operands of STRB, STRH, STR, LDRB, LDRH, LDR, LDRSB and LDRSH
--- (DDI0553, "LDR (immediate)", "LDR (literal)", "LDR (register)" and the like of each)
+-- (DDI0553, the immediate and register form of each, and the literal form of each load, as "LDR (immediate)", "LDR (register)" and "LDR (literal)")
 abbrev pub access_operands : T12 → Operands
 access_operands (t12.Offset i) = placed true 1 1 0 i.t.value i.n.value i.i.value 0 0
 access_operands (t12.Indexed i) = placed true i.p.value i.u.value i.w.value i.t.value i.n.value i.i.value 0 0
@@ -347,8 +348,8 @@ pub record SystemCodes (s : List ℕ) (o : Operands) (code : Option ℕ) : Type 
   pub lctp : s ≡ codes "lctp" → code ≡ Some (wide_code (wide.T23 t23.Lctp))
 
 -- T12 to T15, and the codes above: STRB, STRH, STR, LDRB, LDRH, LDR, LDRSB, LDRSH, LDRD, STRD, STMIA, LDMIA, STMDB, LDMDB, VPUSH and VPOP
--- (DDI0553, "LDR (immediate)", "LDR (literal)", "LDR (register)" and the like of each, "STRD (immediate)", "LDRD (immediate)", "LDRD (literal)",
--- "STM, STMIA, STMEA", "LDM, LDMIA, LDMFD", "STMDB, STMFD", "LDMDB, LDMEA", "VPUSH" and "VPOP")
+-- (DDI0553, the immediate and register form of each, and the literal form of each load, as "LDR (immediate)", "LDR (register)" and "LDR (literal)",
+-- "STRD (immediate)", "LDRD (immediate)", "LDRD (literal)", "STM, STMIA, STMEA", "LDM, LDMIA, LDMFD", "STMDB, STMFD", "LDMDB, LDMEA", "VPUSH" and "VPOP")
 pub record MemoryCodes (s : List ℕ) (o : Operands) (code : Option ℕ) : Type 0 where
   pub offset : IsCodeOf (λ i. wide.T12 (t12.Offset i)) s o code
   pub indexed : IsCodeOf (λ i. wide.T12 (t12.Indexed i)) s o code

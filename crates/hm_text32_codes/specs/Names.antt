@@ -110,7 +110,8 @@ abbrev pub select_names : List SelectName
 select_names = select.Csel ∷ select.Csinc ∷ select.Csinv ∷ select.Csneg ∷ []
 
 -- MNEMONICS of some rows alone
--- T1, T2 and T8: the mnemonic that says this, of AND to RSB, TST, TEQ, CMN, CMP, MOV, MVN, RRX and the shifts
+-- T1, T2 and T8: the mnemonic that says this, of AND, BIC, ORR, ORN, EOR, ADD, ADC, SBC, SUB, RSB, TST, TEQ, CMN, CMP, MOV, MVN, RRX, LSL, LSR, ASR
+-- and ROR
 -- (DDI0553, "Data-processing (modified immediate)", "Data-processing (shifted register)", "LSL (register)", "LSR (register)", "ASR (register)" and
 -- "ROR (register)")
 abbrev pub kind_mnemonic : DataKind → List ℕ

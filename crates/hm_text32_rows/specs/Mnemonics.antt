@@ -87,7 +87,8 @@ shift_mnemonic_with_flags ty s = shift_mnemonic ty ++ either s [] (codes "s")
 abbrev pub carry_mnemonic : ℕ → List ℕ
 carry_mnemonic s = either s (codes "rrx") (codes "rrxs")
 
--- T3: the mnemonic of each name, ADDW and SUBW (DDI0553, "ADD (immediate)" and "SUB (immediate)", encodings T4)
+-- T3: the mnemonic of each name, ADDW and SUBW
+-- (DDI0553, "ADD (immediate)" and "ADD (SP plus immediate)", encodings T4, "SUB (immediate)", encoding T4, "SUB (SP minus immediate)", encoding T3)
 abbrev pub wide_sum_mnemonic : SumName → List ℕ
 wide_sum_mnemonic sum_.Add = codes "addw"
 wide_sum_mnemonic sum_.Sub = codes "subw"

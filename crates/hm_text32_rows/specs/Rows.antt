@@ -112,7 +112,7 @@ product_tokens (t11.Long i) = four (long_mnemonic i.name) (r i.l.value) (r i.h.v
 
 -- MEMORY
 -- T12: the tokens of STRB, STRH, STR, LDRB, LDRH, LDR, LDRSB and LDRSH: `[rn,#i]`; with an index by P, U and W; `[rn,rm,lsl #i]`; `[pc,#i]`
--- (DDI0553, "LDR (immediate)", "LDR (literal)", "LDR (register)" and the like of each)
+-- (DDI0553, the immediate and register form of each, and the literal form of each load, as "LDR (immediate)", "LDR (register)" and "LDR (literal)")
 abbrev pub access_tokens : AccessRow → List Tok
 access_tokens (t12.Offset i) = word (access_mnemonic i.name ++ wide) ∷ r i.t.value ∷ comma ∷ inside 1 0 (r i.n.value) i.i.value
 access_tokens (t12.Indexed i) = word (access_mnemonic i.name ++ wide) ∷ r i.t.value ∷ comma ∷ indexed i.p.value i.u.value i.w.value (r i.n.value) i.i.value
@@ -167,7 +167,7 @@ table_tokens table.Tbb n m = word (table_mnemonic table.Tbb) ∷ open_bracket �
 table_tokens table.Tbh n m = word (table_mnemonic table.Tbh) ∷ scaled n m 1
 
 -- LABELS: what stands before them
--- T16: the tokens of B and BL before the label, `beq.w label` and so on, `b.w label`, `bl label` (DDI0553, "B", encodings T3 and T4, and "BL")
+-- T16: the tokens of B and BL before the label, B under a condition as `beq.w label`, `b.w label`, `bl label` (DDI0553, "B", encodings T3 and T4, and "BL")
 abbrev pub wide_branch_tokens : WideBranchRow → List Tok
 wide_branch_tokens (t16.Conditional i) = word (branch_mnemonic i.c.value ++ wide) ∷ []
 wide_branch_tokens (t16.Always i) = word (wide_branch_mnemonic i.name ++ wide_branch_suffix i.name) ∷ []

@@ -14,7 +14,7 @@ extend_mnemonic extend.Uxth = codes "uxth"
 extend_mnemonic extend.Uxtb = codes "uxtb"
 
 -- S15 and T12: the mnemonic of each name, STR, STRH, STRB, LDRSB, LDR, LDRH, LDRB and LDRSH
--- (DDI0553, "LDR (immediate)", "LDR (literal)", "LDR (register)" and the like of each)
+-- (DDI0553, the immediate and register form of each, and the literal form of each load, as "LDR (immediate)", "LDR (register)" and "LDR (literal)")
 abbrev pub access_mnemonic : AccessName → List ℕ
 access_mnemonic access.Str = codes "str"
 access_mnemonic access.Strh = codes "strh"

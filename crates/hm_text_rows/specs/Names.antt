@@ -40,6 +40,6 @@ abbrev pub extend_names : List ExtendName
 extend_names = extend.Sxth ∷ extend.Sxtb ∷ extend.Uxth ∷ extend.Uxtb ∷ []
 
 -- S15 and T12: STR, STRH, STRB, LDRSB, LDR, LDRH, LDRB and LDRSH
--- (DDI0553, "STR (register)", "LDR (immediate)", "LDR (literal)", "LDR (register)" and the like of each)
+-- (DDI0553, the immediate and register form of each, and the literal form of each load, as "LDR (immediate)", "LDR (register)" and "LDR (literal)")
 abbrev pub access_names : List AccessName
 access_names = access.Str ∷ access.Strh ∷ access.Strb ∷ access.Ldrsb ∷ access.Ldr ∷ access.Ldrh ∷ access.Ldrb ∷ access.Ldrsh ∷ []

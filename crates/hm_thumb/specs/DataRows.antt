@@ -69,7 +69,9 @@ abbrev pub t2 : T2 → Regs → Regs
 t2 i r =
     data_row i.name i.s.value i.d.value (reg_or_zero i.n.value r) (imm_shift_c i.ty.value (imm5 i.i3.value i.i2.value) (reg i.m.value r) r.c) r
 
--- T3: ADDW, SUBW and ADR (DDI0553, "ADD (immediate)" and "SUB (immediate)", encodings T4, and "ADR", encodings T2 and T3)
+-- T3: ADDW, SUBW and ADR
+-- (DDI0553, "ADD (immediate)" and "ADD (SP plus immediate)", encodings T4, "SUB (immediate)", encoding T4, "SUB (SP minus immediate)", encoding T3,
+-- and "ADR", encodings T2 and T3)
 abbrev pub t3 : T3 → Regs → Regs
 t3 i r = put i.d.value (sum_of i.name (base_of i.n.value r) (imm12 i.i.value i.i3.value i.i8.value)).result r
 

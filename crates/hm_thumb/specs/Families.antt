@@ -28,7 +28,7 @@ abbrev pub is_register_row : Instr → Bool
 is_register_row (instr.Scalar i) = not (loads_or_stores i)
 is_register_row i = false
 
--- whether an instruction is of a branch row: a branch, a call, or the begin or end of a loop
+-- whether an instruction is of a branch row: a branch, a call, the begin or end of a loop, or LCTP
 abbrev pub is_branch_row : Instr → Bool
 is_branch_row (instr.Branch i) = true
 is_branch_row i = false

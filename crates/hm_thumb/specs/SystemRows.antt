@@ -97,6 +97,7 @@ abbrev pub lane_move : LaneMoveName → ℕ → ℕ → Regs → Regs
 lane_move lane.ToLane k t r = with_value (QWord k) (reg t r) r
 lane_move lane.FromLane k t r = put t (value_at (QWord k) r) r
 
--- T22: VMOV between a core register and a lane (DDI0553, "VMOV (general-purpose register to vector lane)" and its converse)
+-- T22: VMOV between a core register and a lane
+-- (DDI0553, "VMOV (general-purpose register to vector lane)" and "VMOV (vector lane to general-purpose register)")
 abbrev pub t22 : T22 → Regs → Regs
 t22 i r = lane_move i.name (4 * i.q.value + i.x.value) i.t.value r
