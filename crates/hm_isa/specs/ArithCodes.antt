@@ -89,7 +89,7 @@ long_product_base long.Umlal = 0xfbe00000
 abbrev pub code_long_product : LongProduct → ℕ
 code_long_product r = long_product_base r.name + r.n.value ↑ 16 + r.l.value ↑ 12 + r.h.value ↑ 8 + r.m.value
 
--- T11: the rows of MUL, SDIV, UDIV, of MLA, MLS, and of SMULL, UMULL, SMLAL, UMLAL
+-- T11: MUL, SDIV, UDIV, MLA, MLS, SMULL, UMULL, SMLAL and UMLAL
 -- (DDI0553, "MUL", "MLA", "MLS", "SMULL", "UMULL", "SMLAL", "UMLAL", "SDIV" and "UDIV")
 abbrev pub code_t11 : T11 → ℕ
 code_t11 (t11.Operation r) = code_operation r

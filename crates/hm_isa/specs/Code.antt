@@ -178,7 +178,8 @@ shift_base shift.Asr = 0x1000
 abbrev pub code_s1 : S1 → ℕ
 code_s1 r = shift_base r.name + r.i.value ↑ 6 + r.m.value ↑ 3 + r.d.value
 
--- S2 and S3: the code of ADDS and SUBS of two registers, their registers 0 (DDI0553, "ADD (register)" and "SUB (register)")
+-- S2 and S3: the code of ADDS and SUBS of two registers, their registers 0, which with bit 10 is that of ADDS and SUBS of a register and a constant
+-- (DDI0553, "ADD (register)", "SUB (register)", "ADD (immediate)" and "SUB (immediate)")
 abbrev pub sum_base : SumName → ℕ
 sum_base sum_.Add = 0x1800
 sum_base sum_.Sub = 0x1a00
@@ -645,7 +646,8 @@ code_v14 r = reverse_base r.name + r.z.value ↑ 18 + r.d.value ↑ 13 + r.m.val
 abbrev pub code_v15 : V15 → ℕ
 code_v15 r = 0xef800050 + r.i.value ↑ 28 + r.i3.value ↑ 16 + r.d.value ↑ 13 + r.cm.value ↑ 8 + r.op.value ↑ 5 + r.i4.value
 
--- V16: the code of VMOVN, VQMOVUN, and VQMOVN of signed and of unsigned elements, all else 0 (DDI0553, "VMOVN", "VQMOVUN" and "VQMOVN")
+-- V16: the code of VMOVNB and VMOVNT, VQMOVUNB and VQMOVUNT, and VQMOVNB and VQMOVNT of signed and of unsigned elements, all else 0
+-- (DDI0553, "VMOVN", "VQMOVUN" and "VQMOVN")
 abbrev pub narrowing_base : NarrowingName → ℕ
 narrowing_base narrowing.Plain = 0xfe310e81
 narrowing_base narrowing.ToUnsigned = 0xee310e81
@@ -670,7 +672,8 @@ dup_base element.Words = 0xeea00b10
 abbrev pub code_v18 : V18 → ℕ
 code_v18 r = dup_base r.size + r.d.value ↑ 17 + r.t.value ↑ 12
 
--- V19: the code of VIWDUP, which goes up, and VDWDUP, which goes down, all else 0 (DDI0553, "VIDUP, VIWDUP" and "VDDUP, VDWDUP")
+-- V19: the code of VIWDUP, which goes up, and VDWDUP, which goes down, all else 0; VIDUP and VDDUP have bits 3 to 1 besides
+-- (DDI0553, "VIDUP, VIWDUP" and "VDDUP, VDWDUP")
 abbrev pub offsets_base : OffsetsName → ℕ
 offsets_base offsets.Up = 0xee010f60
 offsets_base offsets.Down = 0xee011f60
@@ -692,7 +695,8 @@ abbrev pub code_v19 : V19 → ℕ
 code_v19 (v19.Free r) = code_offsets r
 code_v19 (v19.Wrapped r) = code_wrapped_offsets r
 
--- V20 and V21: the mask of VPT and VPST, its bit 3 in bit 22 and the others in bits 15 to 13 (DDI0553, "VPT" and "VPST")
+-- V20 and V21: the mask of VPT and VPST, which VCMP and VPNOT have as 0, its bit 3 in bit 22 and the others in bits 15 to 13
+-- (DDI0553, "VPT", "VPST", "VCMP (vector)" and "VPNOT")
 abbrev pub mask_code : ℕ → ℕ
 mask_code k = (k / 8) ↑ 22 + (k % 8) ↑ 13
 

@@ -19,7 +19,8 @@ use Rattle.hm_isa.specs.declared.data.ExtractName.TheVariants as bits
 use Rattle.hm_isa.specs.declared.data.T6.{T6}
 use Rattle.hm_isa.specs.declared.data.T7.{T7}
 
--- T1 and T2: the number of AND, BIC, ORR, ORN, EOR, ADD, ADC, SBC, SUB and RSB
+-- T1 and T2: the number of AND and TST, BIC, ORR and MOV, ORN and MVN, EOR and TEQ, ADD and CMN, ADC, SBC, SUB and CMP, and RSB;
+-- LSL, LSR, ASR, ROR and RRX of T2 have that of MOV
 -- (DDI0553, "Data-processing (modified immediate)" and "Data-processing (shifted register)")
 abbrev pub data_operation : DataName → ℕ
 data_operation data_.And = 0
@@ -43,8 +44,9 @@ abbrev pub code_t2 : T2 → ℕ
 code_t2 r =
     0xea000000 + data_operation r.name ↑ 21 + r.s.value ↑ 20 + r.n.value ↑ 16 + r.i3.value ↑ 12 + r.d.value ↑ 8 + r.i2.value ↑ 6 + r.ty.value ↑ 4 + r.m.value
 
--- T3: the code of ADDW and SUBW, their registers and constant 0
--- (DDI0553, "ADD (immediate)" and "ADD (SP plus immediate)", encodings T4, "SUB (immediate)", encoding T4, "SUB (SP minus immediate)", encoding T3)
+-- T3: the code of ADDW, SUBW and ADR, their registers and constant 0
+-- (DDI0553, "ADD (immediate)" and "ADD (SP plus immediate)", encodings T4, "SUB (immediate)", encoding T4, "SUB (SP minus immediate)", encoding T3,
+-- and "ADR", encodings T2 and T3)
 abbrev pub wide_sum_base : SumName → ℕ
 wide_sum_base sum_.Add = 0xf2000000
 wide_sum_base sum_.Sub = 0xf2a00000

@@ -19,7 +19,7 @@ abbrev pub wide_conditional_distance : WideConditional → ℕ
 wide_conditional_distance i =
     sign_extended 21 (i.s.value * 2 ^ 20 + i.j2.value * 2 ^ 19 + i.j1.value * 2 ^ 18 + i.i6.value * 2 ^ 12 + i.i11.value * 2)
 
--- T16: NOT(j EOR s), of bits (DDI0553, "B", encoding T4, and "BL", encoding T1)
+-- T16: NOT(j EOR s), of bits of B and BL (DDI0553, "B", encoding T4, and "BL", encoding T1)
 abbrev pub alike : ℕ → ℕ → ℕ
 alike j s = cond (nat_eq j s) 1 0
 

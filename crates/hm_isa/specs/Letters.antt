@@ -14,19 +14,20 @@ use Rattle.hm_isa.specs.declared.vectors.ConstantShiftName.{ConstantShiftName}
 use Rattle.hm_isa.specs.declared.vectors.ConstantShiftName.TheVariants as by_constant
 use Rattle.hm_isa.specs.Words.{zero_as_32}
 
--- S1: by how many places a shift by a constant goes, where i, below 32, is its code (DDI0553, "DecodeImmShift")
+-- S1: by how many places LSLS, LSRS and ASRS by a constant shift, where i, below 32, is its code
+-- (DDI0553, "LSL (immediate)", "LSR (immediate)", "ASR (immediate)" and "DecodeImmShift")
 abbrev pub shift_amount : ShiftName → ℕ → ℕ
 shift_amount shift.Lsl i = i
 shift_amount shift.Lsr i = zero_as_32 i
 shift_amount shift.Asr i = zero_as_32 i
 
--- S9: the number of the base register: 15 for pc, 13 for sp (DDI0553, "ADR" and "ADD (SP plus immediate)")
+-- S9: the number of the base register: 15 for pc, of ADR, and 13 for sp, of ADD (DDI0553, "ADR" and "ADD (SP plus immediate)")
 abbrev pub base_register : BaseName → ℕ
 base_register base.Pc = 15
 base_register base.Sp = 13
 
--- S15 to S17 and T12: how many bytes STR, STRH, STRB, LDRSB, LDR, LDRH, LDRB and LDRSH access
--- (DDI0553, the immediate form of each, as "LDR (immediate)")
+-- S14 to S17 and T12: how many bytes STR, STRH, STRB, LDRSB, LDR, LDRH, LDRB and LDRSH access
+-- (DDI0553, the immediate and register form of each, and the literal form of each load, as "LDR (immediate)", "LDR (register)" and "LDR (literal)")
 abbrev pub access_size : AccessName → ℕ
 access_size access.Str = 4
 access_size access.Strh = 2
@@ -51,16 +52,17 @@ abbrev pub word_access : WordName → AccessName
 word_access word.Str = access.Str
 word_access word.Ldr = access.Ldr
 
--- V11: the size of elements that the highest bit of the field x tells, 0 to 2 for bytes, halfwords and words
--- (DDI0553, "VSHR", "VRSHR", "VQSHL, VQSHLU", "VSHL", "VSRI" and "VSLI")
+-- V11: the size of elements that the highest bit of the field x of VSHR, VRSHR, VQSHL, VQSHLU, VSHL, VSRI and VSLI tells,
+-- 0 to 2 for bytes, halfwords and words (DDI0553, "VSHR", "VRSHR", "VQSHL, VQSHLU", "VSHL", "VSRI" and "VSLI")
 abbrev pub constant_shift_size : ℕ → ℕ
 constant_shift_size x = if nat_lt x 16 then 0 else (if nat_lt x 32 then 1 else 2)
 
--- V11: how many bits the elements have (DDI0553, "VSHR", "VRSHR", "VQSHL, VQSHLU", "VSHL", "VSRI" and "VSLI")
+-- V11: how many bits the elements of VSHR, VRSHR, VQSHL, VQSHLU, VSHL, VSRI and VSLI have
+-- (DDI0553, "VSHR", "VRSHR", "VQSHL, VQSHLU", "VSHL", "VSRI" and "VSLI")
 abbrev pub constant_shift_bits : ℕ → ℕ
 constant_shift_bits x = 2 ^ (3 + constant_shift_size x)
 
--- V11: how far elements are shifted, which the field x holds together with their size, one way for each direction
+-- V11: how far VSHR, VRSHR, VQSHL, VQSHLU, VSHL, VSRI and VSLI shift, which x holds together with the size of elements, one way for each direction
 -- (DDI0553, "VSHR", "VRSHR", "VQSHL, VQSHLU", "VSHL", "VSRI" and "VSLI")
 abbrev pub constant_shift_amount : ConstantShiftName → ℕ → ℕ
 constant_shift_amount by_constant.Shr x = 2 * constant_shift_bits x - x

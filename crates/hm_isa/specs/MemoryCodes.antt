@@ -30,6 +30,6 @@ code_v26 r =
 abbrev pub code_v27 : V27 → ℕ
 code_v27 r = 0xfd001e00 + r.a.value ↑ 23 + r.w.value ↑ 21 + r.l.value ↑ 20 + r.m.value ↑ 17 + r.d.value ↑ 13 + r.i.value
 
--- V28: VLD20, VLD21, VLD40 to VLD43, VST20, VST21 and VST40 to VST43 (DDI0553, "VLD2", "VLD4", "VST2" and "VST4")
+-- V28: VLD20, VLD21, VLD40, VLD41, VLD42, VLD43, VST20, VST21, VST40, VST41, VST42 and VST43 (DDI0553, "VLD2", "VLD4", "VST2" and "VST4")
 abbrev pub code_v28 : V28 → ℕ
 code_v28 r = 0xfc801e00 + r.w.value ↑ 21 + r.l.value ↑ 20 + r.n.value ↑ 16 + r.d.value ↑ 13 + r.z.value ↑ 7 + r.p.value ↑ 5 + r.f.value

@@ -57,11 +57,13 @@ is_operation n d m = is_general n && is_general d && is_general m
 abbrev pub is_accumulated : ℕ → ℕ → ℕ → ℕ → Bool
 is_accumulated n a d m = is_general n && is_general a && is_general d && is_general m
 
--- T11: the two halves of SMULL, UMULL, SMLAL, UMLAL do not go to one register (DDI0553, "SMULL", "UMULL", "SMLAL" and "UMLAL")
+-- T11: none of the four registers of SMULL, UMULL, SMLAL and UMLAL is sp or pc, and the two halves do not go to one
+-- (DDI0553, "SMULL", "UMULL", "SMLAL" and "UMLAL")
 abbrev pub is_long_product : ℕ → ℕ → ℕ → ℕ → Bool
 is_long_product n l h m = is_general n && is_general l && is_general h && is_general m && not (nat_eq l h)
 
--- T20: as an operand of CSEL, CSINC, CSINV and CSNEG, 15 is no register but 0 (DDI0553, "CSEL", "CSINC", "CSINV" and "CSNEG")
+-- T20: no register of CSEL, CSINC, CSINV and CSNEG is sp; 15 is no result, and as an operand no register but 0
+-- (DDI0553, "CSEL", "CSINC", "CSINV" and "CSNEG")
 abbrev pub is_chosen : ℕ → ℕ → ℕ → Bool
 is_chosen n d m = not (nat_eq n 13) && is_general d && not (nat_eq m 13)
 
@@ -70,34 +72,38 @@ abbrev pub is_system_move : SystemMoveName → ℕ → Bool
 is_system_move move.ReadFpscr t = not (nat_eq t 13)
 is_system_move name t = is_general t
 
--- S14 to S17 and T12: whether an access is LDR, LDRH, LDRB, LDRSH or LDRSB (DDI0553, the immediate form of each, as "LDR (immediate)")
+-- S14 to S17 and T12: whether an access is LDR, LDRH, LDRB, LDRSH or LDRSB, and not STR, STRH or STRB
+-- (DDI0553, the immediate and register form of each, and the literal form of each load, as "LDR (immediate)", "LDR (register)" and "LDR (literal)")
 abbrev pub is_load : AccessName → Bool
 is_load access.Str = false
 is_load access.Strh = false
 is_load access.Strb = false
 is_load name = true
 
--- T12: sp is loaded and stored only by LDR and STR; pc is never stored, and loaded only by LDR
--- (DDI0553, the immediate form of each, as "LDR (immediate)")
+-- T12: of STR, STRH, STRB, LDR, LDRH, LDRB, LDRSH and LDRSB, LDR and STR alone load and store sp; pc is never stored, and loaded only by LDR
+-- (DDI0553, the immediate and register form of each, and the literal form of each load, as "LDR (immediate)", "LDR (register)" and "LDR (literal)")
 abbrev pub is_data : AccessName → ℕ → Bool
 is_data access.Ldr t = true
 is_data access.Str t = not (nat_eq t 15)
 is_data name t = is_general t
 
--- T12: pc is the base only of literals, which are only loaded (DDI0553, the literal form of each, as "LDR (literal)")
+-- T12: the base of STR, STRH, STRB, LDR, LDRH, LDRB, LDRSH and LDRSB is not pc, but of loads of literals, which have a form of their own
+-- (DDI0553, the immediate and register form of each, as "LDR (immediate)" and "LDR (register)")
 abbrev pub is_offset : AccessName → ℕ → ℕ → Bool
 is_offset name n t = not (nat_eq n 15) && is_data name t
 
--- T12: an index is written back to a register that is not the one stored or loaded, or it is taken off
+-- T12: STR, STRH, STRB, LDR, LDRH, LDRB, LDRSH and LDRSB write an index back to another register than is stored or loaded, or take it off
 -- (DDI0553, the immediate form of each, as "LDR (immediate)")
 abbrev pub is_indexed : AccessName → ℕ → ℕ → ℕ → ℕ → ℕ → Bool
 is_indexed name n t p u w = is_offset name n t && (if nat_eq w 1 then not (nat_eq n t) else nat_eq p 1 && nat_eq u 0)
 
--- T12: an offset in a register is in neither sp nor pc, and the base is not pc (DDI0553, the register form of each, as "LDR (register)")
+-- T12: an offset of STR, STRH, STRB, LDR, LDRH, LDRB, LDRSH and LDRSB in a register is in neither sp nor pc, and the base is not pc
+-- (DDI0553, the register form of each, as "LDR (register)")
 abbrev pub is_shifted : AccessName → ℕ → ℕ → ℕ → Bool
 is_shifted name n t m = is_offset name n t && is_general m
 
--- T12: a literal is only loaded, and to a register that the load may have (DDI0553, the literal form of each, as "LDR (literal)")
+-- T12: a literal is only loaded, by LDR, LDRH, LDRB, LDRSH and LDRSB, and to a register that the load may have
+-- (DDI0553, the literal form of each, as "LDR (literal)")
 abbrev pub is_literal : AccessName → ℕ → Bool
 is_literal name t = is_load name && is_data name t
 
@@ -143,7 +149,8 @@ is_reversed reverse_.Rev64 z d m = not (nat_eq d m)
 is_reversed reverse_.Rev32 z d m = nat_lt z 2
 is_reversed reverse_.Rev16 z d m = nat_eq z 0
 
--- V10: whether the name of an operation says whether elements are signed: VHADD, VHSUB, VQADD, VQSUB, VMLA and VMLAS
+-- V10: whether the name of an operation says whether elements are signed: VHADD, VHSUB, VQADD, VQSUB, VMLA and VMLAS do, and
+-- VADD, VSUB, VMUL, VQDMULH and VQRDMULH do not
 -- (DDI0553, the forms with a scalar of "VADD (vector)", "VSUB (vector)", "VMUL (vector)", "VHADD", "VHSUB", "VQADD", "VQSUB" and
 -- "VQDMULH, VQRDMULH (vector)", and "VMLA (vector by scalar plus vector)" and "VMLAS (vector by vector plus scalar)")
 abbrev pub has_sign : ScalarName → Bool
@@ -159,23 +166,26 @@ has_sign by_scalar.Qrdmulh = false
 has_sign by_scalar.Mla = true
 has_sign by_scalar.Mlas = true
 
--- V10: u is 0 where the name says nothing of signs
+-- V10: u is 0 where the name says nothing of signs: of VADD, VSUB, VMUL, VQDMULH and VQRDMULH, but not of VHADD, VHSUB, VQADD, VQSUB, VMLA and VMLAS
 -- (DDI0553, the forms with a scalar of "VADD (vector)", "VSUB (vector)", "VMUL (vector)", "VHADD", "VHSUB", "VQADD", "VQSUB" and
 -- "VQDMULH, VQRDMULH (vector)", and "VMLA (vector by scalar plus vector)" and "VMLAS (vector by vector plus scalar)")
 abbrev pub is_signed_by : ScalarName → ℕ → Bool
 is_signed_by name u = has_sign name || nat_eq u 0
 
--- V11: whether the name of a shift by a constant says whether elements are signed: VSHR, VRSHR and VQSHL (DDI0553, "VSHR", "VRSHR" and "VQSHL, VQSHLU")
+-- V11: whether the name of a shift by a constant says whether elements are signed: VSHR, VRSHR and VQSHL do, and VQSHLU, VSHL, VSRI and VSLI do not
+-- (DDI0553, "VSHR", "VRSHR", "VQSHL, VQSHLU", "VSHL", "VSRI" and "VSLI")
 abbrev pub shift_has_sign : ConstantShiftName → Bool
 shift_has_sign by_constant.Shr = true
 shift_has_sign by_constant.Rshr = true
 shift_has_sign by_constant.Qshl = true
 shift_has_sign name = false
 
--- V11: u is 0 where the name of a shift by a constant says nothing of signs (DDI0553, "VSHR", "VRSHR", "VQSHL, VQSHLU", "VSHL", "VSRI" and "VSLI")
+-- V11: u is 0 where the name of a shift by a constant says nothing of signs: of VQSHLU, VSHL, VSRI and VSLI, but not of VSHR, VRSHR and VQSHL
+-- (DDI0553, "VSHR", "VRSHR", "VQSHL, VQSHLU", "VSHL", "VSRI" and "VSLI")
 abbrev pub is_shifted_by : ConstantShiftName → ℕ → Bool
 is_shifted_by name u = shift_has_sign name || nat_eq u 0
 
--- V11: the highest bit that is 1 stands for a size of elements (DDI0553, "VSHR", "VRSHR", "VQSHL, VQSHLU", "VSHL", "VSRI" and "VSLI")
+-- V11: the highest bit that is 1 stands for a size of elements of VSHR, VRSHR, VQSHL, VQSHLU, VSHL, VSRI and VSLI
+-- (DDI0553, "VSHR", "VRSHR", "VQSHL, VQSHLU", "VSHL", "VSRI" and "VSLI")
 abbrev pub has_size : ℕ → Bool
 has_size x = nat_le 8 x

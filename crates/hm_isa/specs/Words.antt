@@ -28,7 +28,7 @@ sign_extended_64 x = if negative x then x + 0xffffffff00000000 else x
 abbrev pub at_most_32 : ℕ → ℕ
 at_most_32 n = if nat_lt n 32 then n else 32
 
--- S1, T2, T5 and V17: 32 where five bits are 0, else their number (DDI0553, "DecodeImmShift" and "VSHLC")
+-- 32 where five bits are 0, else their number (DDI0553, "DecodeImmShift" and "VSHLC")
 abbrev pub zero_as_32 : ℕ → ℕ
 zero_as_32 n = if nat_eq n 0 then 32 else n
 
@@ -55,15 +55,16 @@ shift_by Ror = ror_c
 abbrev pub shift_c : ShiftType → ℕ → ℕ → Bool → Shifted
 shift_c type x n carry = if nat_eq n 0 then record { result = x; carry = carry } else shift_by type x n
 
--- T2 and T5: how a register is shifted by a constant, RRX aside: the types 0 to 3 are LSL, LSR, ASR and ROR (DDI0553, "DecodeImmShift")
+-- how a register is shifted by a constant, RRX aside: the types 0 to 3 are LSL, LSR, ASR and ROR (DDI0553, "DecodeImmShift")
 abbrev pub shift_type : ℕ → ShiftType
 shift_type ty = if nat_eq ty 0 then Lsl else (if nat_eq ty 1 then Lsr else (if nat_eq ty 2 then Asr else Ror))
 
--- T2 and T5: by how many places, RRX aside, where k is the number in the code: 0 stands for 32, but for LSL (DDI0553, "DecodeImmShift")
+-- by how many places a register is shifted by a constant, RRX aside, where k is the number in the code: 0 stands for 32, but for LSL
+-- (DDI0553, "DecodeImmShift")
 abbrev pub shift_number : ℕ → ℕ → ℕ
 shift_number ty k = if nat_eq ty 0 then k else zero_as_32 k
 
--- T2 and T5: whether a register is shifted through the carry: ROR by 0 is RRX (DDI0553, "DecodeImmShift")
+-- whether a register is shifted through the carry: ROR by 0 is RRX (DDI0553, "DecodeImmShift")
 abbrev pub is_by_carry : ℕ → ℕ → Bool
 is_by_carry ty k = nat_eq ty 3 && nat_eq k 0
 
@@ -72,19 +73,22 @@ abbrev pub sign_extended : ℕ → ℕ → ℕ
 sign_extended bits x = let y = x % 2 ^ bits in if nat_lt y (2 ^ (bits - 1)) then y else y + (2 ^ 32 - 2 ^ bits)
 
 -- CONSTANTS
--- T2, T5, T6 and T7: the bits i3 and i2 one behind another (DDI0553, "Data-processing (shifted register)", "SSAT", "SBFX" and "BFI")
+-- T2, T5, T6 and T7: the bits i3 and i2 of shifted registers, SSAT, USAT, SBFX, UBFX, BFI and BFC one behind another
+-- (DDI0553, "Data-processing (shifted register)", "SSAT", "USAT", "SBFX", "UBFX", "BFI" and "BFC")
 abbrev pub imm5 : ℕ → ℕ → ℕ
 imm5 i3 i2 = 4 * i3 + i2
 
--- T1 and T3: the bits i, i3 and i8 one behind another (DDI0553, "Data-processing (modified immediate)" and "ADD (immediate)")
+-- T1 and T3: the bits i, i3 and i8 of modified immediates, ADDW, SUBW and ADR one behind another (DDI0553, "Data-processing (modified immediate)",
+-- "ADD (immediate)", "ADD (SP plus immediate)", "SUB (immediate)", "SUB (SP minus immediate)" and "ADR")
 abbrev pub imm12 : ℕ → ℕ → ℕ → ℕ
 imm12 i i3 i8 = 2048 * i + 256 * i3 + i8
 
--- T4: the bits i4, i, i3 and i8 one behind another (DDI0553, "MOV (immediate)" and "MOVT")
+-- T4: the bits i4, i, i3 and i8 of MOVW and MOVT one behind another (DDI0553, "MOV (immediate)" and "MOVT")
 abbrev pub imm16 : ℕ → ℕ → ℕ → ℕ → ℕ
 imm16 i4 i i3 i8 = 4096 * i4 + imm12 i i3 i8
 
--- V15: the bits i, i3 and i4 one behind another (DDI0553, "VMOV (immediate) (vector)")
+-- V15: the bits i, i3 and i4 of VMOV, VMVN, VORR and VBIC one behind another
+-- (DDI0553, "VMOV (immediate) (vector)", "VMVN (immediate)", "VORR (immediate)" and "VBIC (immediate)")
 abbrev pub imm8 : ℕ → ℕ → ℕ → ℕ
 imm8 i i3 i4 = 128 * i + 16 * i3 + i4
 
@@ -92,6 +96,6 @@ imm8 i i3 i4 = 128 * i + 16 * i3 + i4
 abbrev pub repeats : ℕ → ℕ
 repeats k = if nat_eq k 0 then 0x00000001 else (if nat_eq k 1 then 0x00010001 else (if nat_eq k 2 then 0x01000100 else 0x01010101))
 
--- T1: T32ExpandImm_C(x, carry), x of twelve bits (DDI0553, "T32ExpandImm_C")
+-- T32ExpandImm_C(x, carry), x of twelve bits (DDI0553, "T32ExpandImm_C")
 abbrev pub expand_imm_c : ℕ → Bool → Shifted
 expand_imm_c x carry = if nat_lt x 0x400 then record { result = x % 0x100 * repeats (x / 0x100); carry = carry } else ror_c (0x80 + x % 0x80) (x / 0x80)

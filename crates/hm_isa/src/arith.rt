@@ -6,8 +6,8 @@ ghost use Rattle.hm_isa.specs.Rules.{are_general, is_accumulated, is_chosen, is_
 use crate::fields::{Below, Bit, Register};
 use crate::narrow::ExtendName;
 
-/// The operation of the row T8, in the order of its codes: DDI0553, "LSL (register)", "LSR (register)", "ASR (register)" and "ROR
-/// (register)".
+/// The operation of the row T8, `lsl.w`, `lsr.w`, `asr.w` or `ror.w`, in the order of its codes: DDI0553, "LSL (register)", "LSR
+/// (register)", "ASR (register)" and "ROR (register)".
 #[derive(Clone, Copy)]
 pub enum WideShiftName {
     Lsl,
@@ -42,7 +42,7 @@ pub struct T9 {
     pub ghost rules: { IsTrue (are_general d.value m.value) },
 }
 
-/// The operation of the row T10: DDI0553, "REV", "REV16", "REVSH", "RBIT" and "CLZ".
+/// The operation of the row T10, `rev.w`, `rev16.w`, `rbit`, `revsh.w` or `clz`: DDI0553, "REV", "REV16", "REVSH", "RBIT" and "CLZ".
 #[derive(Clone, Copy)]
 pub enum BitsName {
     Rev,
@@ -61,7 +61,7 @@ pub struct T10 {
     pub ghost rules: { IsTrue (are_general d.value m.value) },
 }
 
-/// An operation of the row T11 on two registers: DDI0553, "MUL", "SDIV" and "UDIV".
+/// An operation of the row T11 on two registers, `mul`, `sdiv` or `udiv`: DDI0553, "MUL", "SDIV" and "UDIV".
 #[derive(Clone, Copy)]
 pub enum OperationName {
     Mul,
@@ -79,7 +79,7 @@ pub struct Operation {
     pub ghost rules: { IsTrue (is_operation n.value d.value m.value) },
 }
 
-/// Whether a product of the row T11 is added or taken off: DDI0553, "MLA" and "MLS".
+/// Whether a product of the row T11 is added, by `mla`, or taken off, by `mls`: DDI0553, "MLA" and "MLS".
 #[derive(Clone, Copy)]
 pub enum AccumulateName {
     Mla,
@@ -98,7 +98,8 @@ pub struct Accumulate {
     pub ghost rules: { IsTrue (is_accumulated n.value a.value d.value m.value) },
 }
 
-/// A product of 64 bits of the row T11, alone or added: DDI0553, "SMULL", "UMULL", "SMLAL" and "UMLAL".
+/// A product of 64 bits of the row T11, alone, by `smull` or `umull`, or added, by `smlal` or `umlal`: DDI0553, "SMULL", "UMULL", "SMLAL"
+/// and "UMLAL".
 #[derive(Clone, Copy)]
 pub enum LongProductName {
     Smull,
@@ -120,8 +121,8 @@ pub struct LongProduct {
     pub ghost rules: { IsTrue (is_long_product n.value l.value h.value m.value) },
 }
 
-/// A product or a quotient: DDI0553, "MUL", encoding T2, and "MLA", "MLS", "SMULL", "UMULL", "SMLAL", "UMLAL", "SDIV" and "UDIV",
-/// encodings T1.
+/// A product or a quotient, `mul`, `mla`, `mls`, `smull`, `umull`, `smlal`, `umlal`, `sdiv` or `udiv`: DDI0553, "MUL", encoding T2, and
+/// "MLA", "MLS", "SMULL", "UMULL", "SMLAL", "UMLAL", "SDIV" and "UDIV", encodings T1.
 #[derive(Clone, Copy)]
 pub enum T11 {
     Operation(Operation),
@@ -129,7 +130,8 @@ pub enum T11 {
     Long(LongProduct),
 }
 
-/// The operation of the row T20, in the order of its codes: DDI0553, "CSEL", "CSINC", "CSINV" and "CSNEG".
+/// The operation of the row T20, `csel`, `csinc`, `csinv` or `csneg`, in the order of its codes: DDI0553, "CSEL", "CSINC", "CSINV" and
+/// "CSNEG".
 #[derive(Clone, Copy)]
 pub enum SelectName {
     Csel,

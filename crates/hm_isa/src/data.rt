@@ -7,7 +7,9 @@ ghost use Rattle.hm_isa.specs.Rules.{is_general};
 use crate::fields::{Below, Bit, Byte, Register};
 use crate::narrow::SumName;
 
-/// The operation of the rows T1 and T2: DDI0553, "Data-processing (modified immediate)" and "Data-processing (shifted register)".
+/// The operation of the rows T1 and T2, `and`, `bic`, `orr`, `orn`, `eor`, `add`, `adc`, `sbc`, `sub` or `rsb`, and so `tst`, `teq`,
+/// `cmn` and `cmp`, `mov` and `mvn`, and of T2 `lsl`, `lsr`, `asr`, `ror` and `rrx`: DDI0553, "Data-processing (modified immediate)" and
+/// "Data-processing (shifted register)".
 #[derive(Clone, Copy)]
 pub enum DataName {
     /// `and`, and `tst`
@@ -82,7 +84,7 @@ pub struct T3 {
     pub ghost rules: { IsTrue (is_wide_sum n.value d.value) },
 }
 
-/// The operation of the row T4: DDI0553, "MOV (immediate)" and "MOVT".
+/// The operation of the row T4, `movw` or `movt`: DDI0553, "MOV (immediate)" and "MOVT".
 #[derive(Clone, Copy)]
 pub enum HalfName {
     Movw,
@@ -101,7 +103,7 @@ pub struct T4 {
     pub ghost rules: { IsTrue (is_general d.value) },
 }
 
-/// The operation of the row T5: DDI0553, "SSAT" and "USAT".
+/// The operation of the row T5, `ssat` or `usat`: DDI0553, "SSAT" and "USAT".
 #[derive(Clone, Copy)]
 pub enum SaturateName {
     Ssat,
@@ -122,7 +124,7 @@ pub struct T5 {
     pub ghost rules: { IsTrue (is_saturated sh.value n.value d.value i3.value i2.value) },
 }
 
-/// The operation of the row T6: DDI0553, "SBFX" and "UBFX".
+/// The operation of the row T6, `sbfx` or `ubfx`: DDI0553, "SBFX" and "UBFX".
 #[derive(Clone, Copy)]
 pub enum ExtractName {
     Sbfx,

@@ -16,7 +16,7 @@ pub struct WideConditional {
     pub i11: Below<2048>,
 }
 
-/// The operation of a branch with no condition of the row T16: DDI0553, "B" and "BL".
+/// The operation of a branch with no condition of the row T16, `b.w` or `bl`: DDI0553, "B" and "BL".
 #[derive(Clone, Copy)]
 pub enum WideBranchName {
     /// `b.w`
@@ -37,14 +37,14 @@ pub struct WideAlways {
     pub i11: Below<2048>,
 }
 
-/// A wide branch with a condition or with none: DDI0553, "B", encodings T3 and T4, and "BL", encoding T1.
+/// A wide branch with a condition or with none, `b.w` or `bl`: DDI0553, "B", encodings T3 and T4, and "BL", encoding T1.
 #[derive(Clone, Copy)]
 pub enum T16 {
     Conditional(WideConditional),
     Always(WideAlways),
 }
 
-/// The operation of the row T17: DDI0553, "TBB, TBH".
+/// The operation of the row T17, `tbb` or `tbh`: DDI0553, "TBB, TBH".
 #[derive(Clone, Copy)]
 pub enum TableName {
     /// `tbb`
@@ -100,7 +100,7 @@ pub struct Wlstp {
     pub ghost not_pc: { n.value ≢ 15 },
 }
 
-/// The operation of the row T23 at the end of a loop: DDI0553, "LE, LETP".
+/// The operation of the row T23 at the end of a loop, `le` with lr, `letp` or `le`: DDI0553, "LE, LETP".
 #[derive(Clone, Copy)]
 pub enum LoopEndName {
     /// `le lr,label`
@@ -118,7 +118,7 @@ pub struct LoopEnd {
     pub v: Below<2048>,
 }
 
-/// Low-overhead loops: DDI0553, "WLS, DLS, WLSTP, DLSTP", "LE, LETP" and "LCTP".
+/// Low-overhead loops, `dls`, `wls`, `dlstp`, `wlstp`, `le`, `letp` and `lctp`: DDI0553, "WLS, DLS, WLSTP, DLSTP", "LE, LETP" and "LCTP".
 #[derive(Clone, Copy)]
 pub enum T23 {
     Dls(Dls),

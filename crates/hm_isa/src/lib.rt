@@ -203,7 +203,7 @@ pub enum Scalar {
     S3(S3),
     /// `movs`, `cmp`, `adds`, `subs rd,#i`
     S4(S4),
-    /// `ands` to `mvns rd,rm`
+    /// `ands`, `eors`, `lsls`, `lsrs`, `asrs`, `adcs`, `sbcs`, `rors`, `tst`, `rsbs`, `cmp`, `cmn`, `orrs`, `muls`, `bics`, `mvns rd,rm`
     S5(S5),
     /// `add rd,rm` of any registers
     S6(S6),
@@ -223,9 +223,9 @@ pub enum Scalar {
     S13(S13),
     /// `ldr rt,label`
     S14(S14),
-    /// `str` to `ldrsh rt,[rn,rm]`
+    /// `str`, `strh`, `strb`, `ldrsb`, `ldr`, `ldrh`, `ldrb`, `ldrsh rt,[rn,rm]`
     S15(S15),
-    /// `str` to `ldrh rt,[rn,#i]`
+    /// `str`, `ldr`, `strb`, `ldrb`, `strh`, `ldrh rt,[rn,#i]`
     S16(S16),
     /// `str`, `ldr rt,[sp,#4i]`
     S17(S17),
@@ -237,9 +237,11 @@ pub enum Scalar {
     S20(S20),
     /// `it`
     S21(S21),
-    /// `and.w` to `rsb.w rd,rn,#c`
+    /// `and.w`, `bic.w`, `orr.w`, `orn.w`, `eor.w`, `add.w`, `adc.w`, `sbc.w`, `sub.w`, `rsb.w rd,rn,#c`, and so
+    /// `tst.w`, `teq.w`, `cmn.w`, `cmp.w`, `mov.w`, `mvn.w`
     T1(T1),
-    /// `and.w` to `rsb.w rd,rn,rm,lsl #k`
+    /// `and.w`, `bic.w`, `orr.w`, `orn.w`, `eor.w`, `add.w`, `adc.w`, `sbc.w`, `sub.w`, `rsb.w rd,rn,rm,lsl #k`, and so
+    /// `tst.w`, `teq.w`, `cmn.w`, `cmp.w`, `mvn.w`, `mov.w`, `lsl.w`, `lsr.w`, `asr.w`, `ror.w`, `rrx`
     T2(T2),
     /// `addw`, `subw`
     T3(T3),
@@ -257,9 +259,9 @@ pub enum Scalar {
     T9(T9),
     /// `rev.w`, `rev16.w`, `rbit`, `revsh.w`, `clz`
     T10(T10),
-    /// `mul`, `mla`, `mls`, `smull` to `umlal`, `sdiv`, `udiv`
+    /// `mul`, `mla`, `mls`, `smull`, `umull`, `smlal`, `umlal`, `sdiv`, `udiv`
     T11(T11),
-    /// `str.w` to `ldrsh.w`
+    /// `strb.w`, `strh.w`, `str.w`, `ldrb.w`, `ldrh.w`, `ldr.w`, `ldrsb.w`, `ldrsh.w`
     T12(T12),
     /// `strd`, `ldrd`
     T13(T13),
@@ -292,7 +294,7 @@ pub enum Branch {
     T16(T16),
     /// `tbb`, `tbh`
     T17(T17),
-    /// `dls` to `lctp`
+    /// `dls`, `wls`, `dlstp`, `wlstp`, `le`, `letp`, `lctp`
     T23(T23),
 }
 
@@ -301,41 +303,41 @@ pub enum Branch {
 pub enum Vector {
     /// `vadd`, `vsub`, `vmul` of elements
     V1(V1),
-    /// `vand` to `veor`
+    /// `vand`, `vbic`, `vorr`, `vorn`, `veor`
     V2(V2),
-    /// `vmax` to `vqsub`
+    /// `vmax`, `vmin`, `vabd`, `vhadd`, `vrhadd`, `vhsub`, `vqadd`, `vqsub`
     V3(V3),
-    /// `vshl` to `vqrshl` by elements
+    /// `vshl`, `vqshl`, `vrshl`, `vqrshl` by elements
     V4(V4),
     /// `vqdmulh`, `vqrdmulh`
     V5(V5),
-    /// `vmull`
+    /// `vmullb`, `vmullt`
     V6(V6),
     /// `vmulh`, `vrmulh`
     V7(V7),
-    /// `vadc` to `vsbci`
+    /// `vadc`, `vadci`, `vsbc`, `vsbci`
     V8(V8),
     /// `vcadd`, `vhcadd`
     V9(V9),
-    /// elements and a core register
+    /// `vadd`, `vsub`, `vmul`, `vhadd`, `vhsub`, `vqadd`, `vqsub`, `vqdmulh`, `vqrdmulh`, `vmla`, `vmlas` of elements and a core register
     V10(V10),
-    /// `vshr` to `vsli` by a constant
+    /// `vshr`, `vrshr`, `vqshl`, `vqshlu`, `vshl`, `vsri`, `vsli` by a constant
     V11(V11),
-    /// `vshll`
+    /// `vshllb`, `vshllt`, `vmovlb`, `vmovlt`
     V12(V12),
-    /// `vcls` to `vqneg`, `vmvn`
+    /// `vcls`, `vclz`, `vabs`, `vneg`, `vqabs`, `vqneg`, `vmvn`
     V13(V13),
-    /// `vrev`
+    /// `vrev64`, `vrev32`, `vrev16`
     V14(V14),
     /// `vmov`, `vmvn`, `vorr`, `vbic` with an immediate
     V15(V15),
-    /// `vmovn`, `vqmovn`
+    /// `vmovnb`, `vmovnt`, `vqmovunb`, `vqmovunt`, `vqmovnb`, `vqmovnt`
     V16(V16),
     /// `vshlc`
     V17(V17),
     /// `vdup`
     V18(V18),
-    /// `vidup` to `vdwdup`
+    /// `vidup`, `vddup`, `viwdup`, `vdwdup`
     V19(V19),
     /// `vcmp`, `vpt`
     V20(V20),
@@ -345,15 +347,15 @@ pub enum Vector {
     V22(V22),
     /// `vmaxv`, `vminv`
     V23(V23),
-    /// `vldrb.u8` to `vstrw.32` of elements one after another
+    /// `vldrb`, `vldrh`, `vldrw`, `vstrb`, `vstrh`, `vstrw` of elements one after another
     V24(V24),
-    /// `vldrb.u16` to `vstrh.32` of narrower elements in memory
+    /// `vldrb`, `vldrh`, `vstrb`, `vstrh` of narrower elements in memory
     V25(V25),
-    /// `vldrb.u8` to `vstrw.32` at offsets in a vector
+    /// `vldrb`, `vldrh`, `vldrw`, `vstrb`, `vstrh`, `vstrw` at offsets in a vector
     V26(V26),
-    /// `vldrw.u32`, `vstrw.32` at addresses in a vector
+    /// `vldrw`, `vstrw` at addresses in a vector
     V27(V27),
-    /// `vld2`, `vld4`, `vst2`, `vst4`
+    /// `vld20`, `vld21`, `vld40`, `vld41`, `vld42`, `vld43`, `vst20`, `vst21`, `vst40`, `vst41`, `vst42`, `vst43`
     V28(V28),
 }
 

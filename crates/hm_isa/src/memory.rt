@@ -99,8 +99,9 @@ pub struct V27 {
     pub ghost rule: { IsTrue (is_at_addresses l.value m.value d.value) },
 }
 
-/// `vld20`, `vld21`, `vld40` to `vld43`, `vst20`, `vst21`, `vst40` to `vst43`: a part of a load or store of two or four registers whose
-/// elements take turns in memory, as `vld20.8 {q0,q1},[rn]` and `vst43.32 {q0,q1,q2,q3},[rn]!`: DDI0553, "VLD2", "VLD4", "VST2" and "VST4".
+/// `vld20`, `vld21`, `vld40`, `vld41`, `vld42`, `vld43`, `vst20`, `vst21`, `vst40`, `vst41`, `vst42`, `vst43`: a part of a load or store
+/// of two or four registers whose elements take turns in memory, as `vld20.8 {q0,q1},[rn]` and `vst43.32 {q0,q1,q2,q3},[rn]!`: DDI0553,
+/// "VLD2", "VLD4", "VST2" and "VST4".
 #[derive(Clone, Copy)]
 pub struct V28 {
     /// Whether the base gets the address behind all elements: 32 bytes on, or 64.

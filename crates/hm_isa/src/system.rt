@@ -5,7 +5,7 @@ ghost use Rattle.hm_isa.specs.Rules.{is_system_move};
 
 use crate::fields::{Below, QRegister, Register};
 
-/// A special register that the row T18 reads: DDI0553, "MRS".
+/// A special register that the row T18 reads, by `mrs`: DDI0553, "MRS".
 #[derive(Clone, Copy)]
 pub enum ReadName {
     Apsr,
@@ -26,7 +26,7 @@ pub struct Mrs {
     pub ghost not_pc: { d.value ≢ 15 },
 }
 
-/// A special register that the row T18 writes: DDI0553, "MSR (register)".
+/// A special register that the row T18 writes, by `msr`: DDI0553, "MSR (register)".
 #[derive(Clone, Copy)]
 pub enum WrittenName {
     Apsr,
@@ -46,14 +46,14 @@ pub struct Msr {
     pub ghost not_pc: { n.value ≢ 15 },
 }
 
-/// A special register, read or written: DDI0553, "MRS" and "MSR (register)", encodings T1.
+/// A special register, read by `mrs` or written by `msr`: DDI0553, "MRS" and "MSR (register)", encodings T1.
 #[derive(Clone, Copy)]
 pub enum T18 {
     Read(Mrs),
     Write(Msr),
 }
 
-/// A barrier of the row T19, in the order of the codes: DDI0553, "DSB", "DMB" and "ISB".
+/// A barrier of the row T19, `dsb`, `dmb` or `isb`, in the order of the codes: DDI0553, "DSB", "DMB" and "ISB".
 #[derive(Clone, Copy)]
 pub enum BarrierName {
     Dsb,
@@ -68,7 +68,8 @@ pub struct Barrier {
     pub o: Below<16>,
 }
 
-/// An instruction that does nothing: DDI0553, "NOP", encoding T2, and "DSB", "DMB" and "ISB", encodings T1.
+/// An instruction that does nothing, `nop.w`, `dsb`, `dmb` or `isb`: DDI0553, "NOP", encoding T2, and "DSB", "DMB" and "ISB", encodings
+/// T1.
 #[derive(Clone, Copy)]
 pub enum T19 {
     /// `nop.w`
@@ -76,7 +77,7 @@ pub enum T19 {
     Barrier(Barrier),
 }
 
-/// The operation of the row T21: DDI0553, "VMRS" and "VMSR".
+/// The operation of the row T21, `vmrs` or `vmsr` of FPSCR, VPR or P0: DDI0553, "VMRS" and "VMSR".
 #[derive(Clone, Copy)]
 pub enum SystemMoveName {
     /// `vmrs rt,fpscr`, and with 15 as `t` `vmrs apsr_nzcv,fpscr`
@@ -93,7 +94,7 @@ pub enum SystemMoveName {
     WriteP0,
 }
 
-/// A move between a core register and FPSCR, VPR or its P0: DDI0553, "VMRS" and "VMSR", encodings T1.
+/// A move between a core register and FPSCR, VPR or its P0, `vmrs` or `vmsr`: DDI0553, "VMRS" and "VMSR", encodings T1.
 #[derive(Clone, Copy)]
 pub struct T21 {
     pub name: SystemMoveName,
@@ -101,8 +102,8 @@ pub struct T21 {
     pub ghost rules: { IsTrue (is_system_move name t.value) },
 }
 
-/// The operation of the row T22: DDI0553, "VMOV (general-purpose register to vector lane)" and "VMOV (vector lane to
-/// general-purpose register)".
+/// The operation of the row T22, `vmov.32` to a lane or from one: DDI0553, "VMOV (general-purpose register to vector lane)" and "VMOV
+/// (vector lane to general-purpose register)".
 #[derive(Clone, Copy)]
 pub enum LaneMoveName {
     /// `vmov.32 qd[x],rt`
@@ -111,8 +112,8 @@ pub enum LaneMoveName {
     FromLane,
 }
 
-/// A move between a core register and word `x` of a vector register: DDI0553, "VMOV (general-purpose register to vector lane)" and
-/// "VMOV (vector lane to general-purpose register)", encodings T1.
+/// A move between a core register and word `x` of a vector register, `vmov.32`: DDI0553, "VMOV (general-purpose register to vector lane)"
+/// and "VMOV (vector lane to general-purpose register)", encodings T1.
 #[derive(Clone, Copy)]
 pub struct T22 {
     pub name: LaneMoveName,

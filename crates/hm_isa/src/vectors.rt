@@ -8,8 +8,8 @@ ghost use Rattle.hm_isa.specs.Rules.{has_size, is_reversed, is_shifted_by, is_si
 use crate::fields::{Below, Bit, ElementSize, QRegister, Register};
 use crate::words::zero_as_32;
 
-/// The size of the elements of V18 and of a sum of products of V22, where it tells codes apart as a name does: DDI0553, "VDUP"
-/// and "VMLADAV".
+/// The size of the elements of V18, `vdup`, and of a sum of products of V22, `vmladav`, where it tells codes apart as a name does:
+/// DDI0553, "VDUP" and "VMLADAV".
 #[derive(Clone, Copy)]
 pub enum Element {
     /// 8 bits
@@ -20,7 +20,7 @@ pub enum Element {
     Words,
 }
 
-/// The operation of the row V1: DDI0553, "VADD (vector)", "VSUB (vector)" and "VMUL (vector)".
+/// The operation of the row V1, `vadd`, `vsub` or `vmul`: DDI0553, "VADD (vector)", "VSUB (vector)" and "VMUL (vector)".
 #[derive(Clone, Copy)]
 pub enum AddName {
     /// `vadd`
@@ -45,7 +45,7 @@ pub struct V1 {
     pub m: QRegister,
 }
 
-/// The operation of the row V2: DDI0553, "VAND", "VBIC (register)", "VORR", "VORN" and "VEOR".
+/// The operation of the row V2, `vand`, `vbic`, `vorr`, `vorn` or `veor`: DDI0553, "VAND", "VBIC (register)", "VORR", "VORN" and "VEOR".
 #[derive(Clone, Copy)]
 pub enum BitwiseName {
     /// `vand`
@@ -72,7 +72,8 @@ pub struct V2 {
     pub m: QRegister,
 }
 
-/// The operation of the row V3: DDI0553, "VMAX, VMAXA", "VMIN, VMINA", "VABD", "VHADD", "VRHADD", "VHSUB", "VQADD" and "VQSUB".
+/// The operation of the row V3, `vmax`, `vmin`, `vabd`, `vhadd`, `vrhadd`, `vhsub`, `vqadd` or `vqsub`: DDI0553, "VMAX, VMAXA", "VMIN,
+/// VMINA", "VABD", "VHADD", "VRHADD", "VHSUB", "VQADD" and "VQSUB".
 #[derive(Clone, Copy)]
 pub enum SignedName {
     /// `vmax`
@@ -110,7 +111,7 @@ pub struct V3 {
     pub m: QRegister,
 }
 
-/// The operation of the row V4: DDI0553, "VSHL", "VQSHL, VQSHLU", "VRSHL" and "VQRSHL".
+/// The operation of the row V4, `vshl`, `vqshl`, `vrshl` or `vqrshl`: DDI0553, "VSHL", "VQSHL, VQSHLU", "VRSHL" and "VQRSHL".
 #[derive(Clone, Copy)]
 pub enum VectorShiftName {
     /// `vshl`
@@ -140,7 +141,7 @@ pub struct V4 {
     pub m: QRegister,
 }
 
-/// The operation of the row V5: DDI0553, "VQDMULH, VQRDMULH (vector)".
+/// The operation of the row V5, `vqdmulh` or `vqrdmulh`: DDI0553, "VQDMULH, VQRDMULH (vector)".
 #[derive(Clone, Copy)]
 pub enum DoublingName {
     /// `vqdmulh`
@@ -181,7 +182,7 @@ pub struct V6 {
     pub ghost rule: { IsTrue (is_widened z.value d.value n.value m.value) },
 }
 
-/// The operation of the row V7: DDI0553, "VMULH, VRMULH".
+/// The operation of the row V7, `vmulh` or `vrmulh`: DDI0553, "VMULH, VRMULH".
 #[derive(Clone, Copy)]
 pub enum HighName {
     /// `vmulh`
@@ -206,7 +207,7 @@ pub struct V7 {
     pub m: QRegister,
 }
 
-/// The operation of the row V8: DDI0553, "VADC" and "VSBC".
+/// The operation of the row V8, `vadc`, `vadci`, `vsbc` or `vsbci`: DDI0553, "VADC" and "VSBC".
 #[derive(Clone, Copy)]
 pub enum CarryName {
     /// `vadc`
@@ -231,7 +232,7 @@ pub struct V8 {
     pub m: QRegister,
 }
 
-/// The operation of the row V9: DDI0553, "VCADD" and "VHCADD".
+/// The operation of the row V9, `vcadd` or `vhcadd`: DDI0553, "VCADD" and "VHCADD".
 #[derive(Clone, Copy)]
 pub enum ComplexSumName {
     /// `vcadd`
@@ -257,8 +258,9 @@ pub struct V9 {
     pub ghost rule: { IsTrue (is_complex_sum z.value d.value m.value) },
 }
 
-/// The operation of the row V10: DDI0553, "VADD (vector)", "VSUB (vector)", "VMUL (vector)", "VHADD", "VHSUB", "VQADD", "VQSUB",
-/// "VQDMULH, VQRDMULH (vector)", "VMLA (vector by scalar plus vector)" and "VMLAS (vector by vector plus scalar)".
+/// The operation of the row V10, `vadd`, `vsub`, `vmul`, `vhadd`, `vhsub`, `vqadd`, `vqsub`, `vqdmulh`, `vqrdmulh`, `vmla` or `vmlas`:
+/// DDI0553, the forms with a scalar of "VADD (vector)", "VSUB (vector)", "VMUL (vector)", "VHADD", "VHSUB", "VQADD", "VQSUB" and
+/// "VQDMULH, VQRDMULH (vector)", and "VMLA (vector by scalar plus vector)" and "VMLAS (vector by vector plus scalar)".
 #[derive(Clone, Copy)]
 pub enum ScalarName {
     /// `vadd`
@@ -307,7 +309,8 @@ pub struct V10 {
     pub ghost not_pc: { m.value ≢ 15 },
 }
 
-/// The operation of the row V11: DDI0553, "VSHR", "VRSHR", "VQSHL, VQSHLU", "VSHL", "VSRI" and "VSLI".
+/// The operation of the row V11, `vshr`, `vrshr`, `vqshl`, `vqshlu`, `vshl`, `vsri` or `vsli`: DDI0553, "VSHR", "VRSHR", "VQSHL, VQSHLU",
+/// "VSHL", "VSRI" and "VSLI".
 #[derive(Clone, Copy)]
 pub enum ConstantShiftName {
     /// `vshr`
@@ -442,7 +445,8 @@ pub enum V12 {
     Full(LongFull),
 }
 
-/// The operation of the row V13 on elements: DDI0553, "VCLS", "VCLZ", "VABS (vector)", "VNEG (vector)", "VQABS" and "VQNEG".
+/// The operation of the row V13 on elements, `vcls`, `vclz`, `vabs`, `vneg`, `vqabs` or `vqneg`: DDI0553, "VCLS", "VCLZ", "VABS
+/// (vector)", "VNEG (vector)", "VQABS" and "VQNEG".
 #[derive(Clone, Copy)]
 pub enum OneName {
     /// `vcls`
@@ -481,14 +485,15 @@ pub struct Invert {
     pub m: QRegister,
 }
 
-/// Operations on one vector: DDI0553, "VCLS", "VCLZ", "VABS (vector)", "VNEG (vector)", "VQABS", "VQNEG" and "VMVN (register)".
+/// Operations on one vector, `vcls`, `vclz`, `vabs`, `vneg`, `vqabs`, `vqneg` and `vmvn`: DDI0553, "VCLS", "VCLZ", "VABS (vector)", "VNEG
+/// (vector)", "VQABS", "VQNEG" and "VMVN (register)".
 #[derive(Clone, Copy)]
 pub enum V13 {
     Elements(OneElement),
     Not(Invert),
 }
 
-/// The operation of the row V14: DDI0553, "VREV64", "VREV32" and "VREV16".
+/// The operation of the row V14, `vrev64`, `vrev32` or `vrev16`: DDI0553, "VREV64", "VREV32" and "VREV16".
 #[derive(Clone, Copy)]
 pub enum ReverseName {
     /// `vrev64`
@@ -534,7 +539,8 @@ pub struct V15 {
     pub i4: Below<16>,
 }
 
-/// The operation of the row V16: DDI0553, "VMOVN", "VQMOVN" and "VQMOVUN".
+/// The operation of the row V16, `vmovnb`, `vmovnt`, `vqmovunb`, `vqmovunt`, `vqmovnb` or `vqmovnt`: DDI0553, "VMOVN", "VQMOVN" and
+/// "VQMOVUN".
 #[derive(Clone, Copy)]
 pub enum NarrowingName {
     /// `vmovn`
@@ -599,7 +605,8 @@ pub struct V18 {
     pub ghost not_pc: { t.value ≢ 15 },
 }
 
-/// Which way the offsets of the row V19 go: DDI0553, "VIDUP, VIWDUP" and "VDDUP, VDWDUP".
+/// Which way the offsets of the row V19 go, up by `vidup` and `viwdup`, or down by `vddup` and `vdwdup`: DDI0553, "VIDUP, VIWDUP" and
+/// "VDDUP, VDWDUP".
 #[derive(Clone, Copy)]
 pub enum OffsetsName {
     /// `vidup`, `viwdup`
@@ -638,7 +645,7 @@ pub struct WrappedOffsets {
     pub r: Below<6>,
 }
 
-/// Offsets from a register: DDI0553, "VIDUP, VIWDUP" and "VDDUP, VDWDUP".
+/// Offsets from a register, `vidup`, `vddup`, `viwdup` and `vdwdup`: DDI0553, "VIDUP, VIWDUP" and "VDDUP, VDWDUP".
 #[derive(Clone, Copy)]
 pub enum V19 {
     Free(Offsets),
@@ -677,7 +684,7 @@ pub struct CompareScalar {
     pub ghost not_sp: { m.value ≢ 13 },
 }
 
-/// Comparisons: DDI0553, "VCMP (vector)" and "VPT".
+/// Comparisons, `vcmp` and `vpt`: DDI0553, "VCMP (vector)" and "VPT".
 #[derive(Clone, Copy)]
 pub enum V20 {
     Vectors(CompareVectors),
@@ -712,7 +719,7 @@ pub struct Tail {
     pub ghost not_pc: { n.value ≢ 15 },
 }
 
-/// What sets or uses the predicate: DDI0553, "VPST", "VPNOT", "VPSEL" and "VCTP".
+/// What sets or uses the predicate, `vpst`, `vpnot`, `vpsel` and `vctp`: DDI0553, "VPST", "VPNOT", "VPSEL" and "VCTP".
 #[derive(Clone, Copy)]
 pub enum V21 {
     Block(Block),
@@ -786,7 +793,7 @@ pub struct LongDot {
     pub m: QRegister,
 }
 
-/// Sums: DDI0553, "VADDV", "VMLADAV", "VADDLV" and "VMLALDAV".
+/// Sums, `vaddv`, `vmladav`, `vaddlv` and `vmlaldav`: DDI0553, "VADDV", "VMLADAV", "VADDLV" and "VMLALDAV".
 #[derive(Clone, Copy)]
 pub enum V22 {
     Sum(Sum),
@@ -795,7 +802,7 @@ pub enum V22 {
     LongDot(LongDot),
 }
 
-/// The operation of the row V23: DDI0553, "VMAXV, VMAXAV" and "VMINV, VMINAV".
+/// The operation of the row V23, `vmaxv` or `vminv`: DDI0553, "VMAXV, VMAXAV" and "VMINV, VMINAV".
 #[derive(Clone, Copy)]
 pub enum ExtremeName {
     /// `vmaxv`

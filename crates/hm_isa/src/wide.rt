@@ -58,8 +58,9 @@ pub struct Literal {
     pub ghost rules: { IsTrue (is_literal name t.value) },
 }
 
-/// A load or store of a byte, a halfword or a word: DDI0553, the immediate and register form of each, and the literal form of each load, as
-/// "LDR (immediate)", "LDR (register)" and "LDR (literal)", encodings T1 to T4.
+/// A load or store of a byte, a halfword or a word, `strb.w`, `strh.w`, `str.w`, `ldrb.w`, `ldrh.w`, `ldr.w`, `ldrsb.w` or `ldrsh.w`:
+/// DDI0553, the immediate and register form of each, and the literal form of each load, as "LDR (immediate)", "LDR (register)" and "LDR
+/// (literal)", encodings T1 to T4.
 #[derive(Clone, Copy)]
 pub enum T12 {
     Offset(Offset),
@@ -68,7 +69,7 @@ pub enum T12 {
     Literal(Literal),
 }
 
-/// The operation of the row T13: DDI0553, "STRD (immediate)", "LDRD (immediate)" and "LDRD (literal)".
+/// The operation of the row T13, `strd` or `ldrd`: DDI0553, "STRD (immediate)", "LDRD (immediate)" and "LDRD (literal)".
 #[derive(Clone, Copy)]
 pub enum PairName {
     Strd,
@@ -93,8 +94,8 @@ pub struct T13 {
     pub ghost rules: { IsTrue (is_pair name p.value w.value n.value t.value u.value) },
 }
 
-/// A store or a load of several registers, from the base up or up to it. The operation of the row T14: DDI0553, "STM, STMIA,
-/// STMEA", "LDM, LDMIA, LDMFD", "STMDB, STMFD" and "LDMDB, LDMEA".
+/// A store or a load of several registers, from the base up or up to it. The operation of the row T14, `stmia.w`, `ldmia.w`, `stmdb` or
+/// `ldmdb`: DDI0553, "STM, STMIA, STMEA", "LDM, LDMIA, LDMFD", "STMDB, STMFD" and "LDMDB, LDMEA".
 #[derive(Clone, Copy)]
 pub enum WideListName {
     Stmia,
@@ -115,7 +116,7 @@ pub struct T14 {
     pub ghost rules: { IsTrue (is_wide_list name w.value n.value list.value) },
 }
 
-/// The operation of the row T15: DDI0553, "VPUSH" and "VPOP".
+/// The operation of the row T15, `vpush` or `vpop`: DDI0553, "VPUSH" and "VPOP".
 #[derive(Clone, Copy)]
 pub enum StackName {
     Vpush,

@@ -40,7 +40,7 @@ wide_shift_of wide_shift.Lsr = type.Lsr
 wide_shift_of wide_shift.Asr = type.Asr
 wide_shift_of wide_shift.Ror = type.Ror
 
--- T8: register d gets what was shifted, and the flags tell it where s is 1, in an IT block too
+-- T8: register d gets what LSL, LSR, ASR and ROR shifted, and the flags N, Z and C tell it where s is 1, in an IT block too
 -- (DDI0553, "LSL (register)", "LSR (register)", "ASR (register)" and "ROR (register)")
 abbrev pub put_told : ℕ → ℕ → Shifted → Regs → Regs
 put_told s d x r = let t = put d x.result r in cond (nat_eq s 1) (with_nzc x t) t
@@ -109,7 +109,8 @@ long_result long.Umull old x y = x * y
 long_result long.Smlal old x y = (old + signed_product x y) % 2 ^ 64
 long_result long.Umlal old x y = (old + x * y) % 2 ^ 64
 
--- T11: the low word of a long product into register l, and the high one into register h (DDI0553, "SMULL", "UMULL", "SMLAL" and "UMLAL")
+-- T11: the low word of what SMULL, UMULL, SMLAL and UMLAL give into register l, and the high one into register h
+-- (DDI0553, "SMULL", "UMULL", "SMLAL" and "UMLAL")
 abbrev pub put_long : ℕ → ℕ → ℕ → Regs → Regs
 put_long l h x r = put h (x / 2 ^ 32) (put l (x % 2 ^ 32) r)
 

@@ -72,7 +72,7 @@ s25 (s25_.Always i) r = always i r
 abbrev pub wide_conditional : WideConditional → Regs → Does
 wide_conditional i r = branch_if (condition_holds i.c.value r) (wide_conditional_distance i) r
 
--- T16: BL, a call, leaves the address of the next instruction in lr (DDI0553, "BL")
+-- T16: BL, a call, leaves the address of the next instruction in lr, its bit 0 set; B.W leaves lr (DDI0553, "BL" and "B", encoding T4)
 abbrev pub linked : WideBranchName → Regs → Regs
 linked wide_branch.B r = r
 linked wide_branch.Bl r = put 14 (link ((r.pc + 4) % 2 ^ 32)) r

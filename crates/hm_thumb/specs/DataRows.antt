@@ -28,7 +28,7 @@ use Rattle.hm_isa.specs.declared.words.Shifted.{Shifted}
 abbrev pub rrx_c : ℕ → Bool → Shifted
 rrx_c x carry = record { result = x / 2 + cond carry (2 ^ 31) 0; carry = bit_is_set x 0 }
 
--- T2 and T5: Shift_C(x, type, n, carry) with the type and the number of DecodeImmShift(ty, k) (DDI0553, "Shift_C" and "DecodeImmShift")
+-- Shift_C(x, type, n, carry) with the type and the number of DecodeImmShift(ty, k) (DDI0553, "Shift_C" and "DecodeImmShift")
 abbrev pub imm_shift_c : ℕ → ℕ → ℕ → Bool → Shifted
 imm_shift_c ty k x carry = if is_by_carry ty k then rrx_c x carry else shift_c (shift_type ty) x (shift_number ty k) carry
 
@@ -45,7 +45,8 @@ put_logical s d x carry r = let t = put_if d x r in cond (nat_eq s 1) (with_nzc 
 abbrev pub put_data_sum : ℕ → ℕ → Sum → Regs → Regs
 put_data_sum s d x r = let t = put_if d x.result r in cond (nat_eq s 1) (with_nzcv x t) t
 
--- T1 and T2: AND, BIC, ORR, ORN, EOR, ADD, ADC, SBC, SUB and RSB with s, d, the first operand and the second, whose carry is what C gets of logical operations
+-- T1 and T2: AND and TST, BIC, ORR and MOV, ORN and MVN, EOR and TEQ, ADD and CMN, ADC, SBC, SUB and CMP, and RSB, with s, d, the first operand and
+-- the second, whose carry is what C gets of logical operations; LSL, LSR, ASR, ROR and RRX of T2 are MOV of what is shifted
 -- (DDI0553, "Data-processing (modified immediate)" and "Data-processing (shifted register)")
 abbrev pub data_row : DataName → ℕ → ℕ → ℕ → Shifted → Regs → Regs
 data_row data_.And s d x y r = put_logical s d (bit_and x y.result) y.carry r

@@ -48,7 +48,7 @@ wlstp i r = enter (reg i.n.value r) i.v.value (put_size i.z.value) r
 abbrev pub again : ℕ → ℕ → (Regs → Regs) → Regs → Does
 again step v out r = let left = reg 14 r in cond (nat_le left step) (goes (out r)) (back v (put 14 (left - step) r))
 
--- T23: how much an iteration takes off: the elements of a vector, of the size that LTPSIZE says, or one where it says none (DDI0553, "LE, LETP")
+-- T23: how much LETP takes off: the elements of a vector, of the size that LTPSIZE says, or one where it says none (DDI0553, "LE, LETP")
 abbrev pub elements : Regs → ℕ
 elements r = let size = value_at Ltp r in cond (nat_lt size 4) (2 ^ (4 - size)) 1
 
