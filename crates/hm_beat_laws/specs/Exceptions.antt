@@ -38,7 +38,7 @@ gives_at_end (Registers (form.Offsets r)) = true
 gives_at_end (Moves t) = true
 gives_at_end k = false
 
--- whether those that a row writes belong to beat b: those of sums, of extremes and of VSHLC go from beat to beat, and belong to each
+-- whether those that a row writes belong to beat b: sums, extremes and a register that is shifted through go from beat to beat, and belong to each
 abbrev pub gives_registers : Kind → ℕ → Bool
 gives_registers k b = cond (gives_at_end k) (eqb b 3) true
 
@@ -59,7 +59,8 @@ abbrev pub chooses_by_predicate : Form → Bool
 chooses_by_predicate (form.Select r) = true
 chooses_by_predicate f = false
 
--- V28: whether registers take elements in turn (DDI0553, "VLD2", "VLD4", "VST2" and "VST4")
+-- V28: whether registers take elements in turn, as those of VLD20, VLD21, VLD40, VLD41, VLD42, VLD43, VST20, VST21, VST40, VST41, VST42 and VST43 do
+-- (DDI0553, "VLD2", "VLD4", "VST2" and "VST4")
 abbrev pub takes_turns : Found → Bool
 takes_turns w = not (way_predicated w)
 

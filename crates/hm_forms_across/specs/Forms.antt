@@ -21,23 +21,23 @@ abbrev pub added : ℕ → (ℕ → ℕ → ℕ) → List Bool → List ℕ → 
 added m f (p ∷ ps) (x ∷ xs) (y ∷ ys) sum = added m f ps xs ys (cond p ((sum + f x y) % m) sum)
 added m f _ _ _ sum = sum
 
--- V22: what a pair of elements adds, modulo 2^64: their product for VMLADAV and VMLALDAV, the second one for VADDV and VADDLV
--- (DDI0553, "VADDV", "VMLADAV", "VADDLV" and "VMLALDAV")
+-- V22: what a pair of elements adds, modulo 2^64: their product for VMLADAV, VMLADAVA, VMLALDAV and VMLALDAVA,
+-- the second one for VADDV, VADDVA, VADDLV and VADDLVA (DDI0553, "VADDV", "VMLADAV", "VADDLV" and "VMLALDAV")
 abbrev pub term : Terms → ℕ → ℕ → ℕ
 term t x y = cond t.products (lane_product t.unsigned t.z x y) (extended_lane t.unsigned t.z y)
 
--- V22: a sum modulo m after beat b; one that does not go on from its registers begins at 0 on the first beat
--- (DDI0553, "VADDV", "VMLADAV", "VADDLV" and "VMLALDAV")
+-- V22: a sum modulo m after beat b: on the first one VADDV, VMLADAV, VADDLV and VMLALDAV begin at 0, and VADDVA, VMLADAVA, VADDLVA and VMLALDAVA
+-- go on from their registers (DDI0553, "VADDV", "VMLADAV", "VADDLV" and "VMLALDAV")
 abbrev pub sum_after : ℕ → Bool → Terms → ℕ → List Bool → ℕ → ℕ → ℕ → ℕ
 sum_after m goes_on t b active x y sum =
     added m (term t) (firsts t.z active) (lanes t.z (bytes_of x)) (lanes t.z (bytes_of y)) (cond (not goes_on && eqb b 0) 0 sum)
 
--- V22: the sum of VADDV or VMLADAV after beat b (DDI0553, "VADDV" and "VMLADAV")
+-- V22: the sum of VADDV, VADDVA, VMLADAV or VMLADAVA after beat b (DDI0553, "VADDV" and "VMLADAV")
 abbrev pub sum_next : Sums → ℕ → List Bool → List ℕ → ℕ
 sum_next r b active (sum ∷ x ∷ y ∷ vs) = sum_after (2 ^ 32) r.goes_on r.terms b active x y sum
 sum_next r b active _ = 0
 
--- V22: VADDV and VMLADAV, beat by beat (DDI0553, "VADDV" and "VMLADAV")
+-- V22: VADDV, VADDVA, VMLADAV and VMLADAVA, beat by beat (DDI0553, "VADDV" and "VMLADAV")
 abbrev pub sum_row : Sums → Row
 sum_row r = record {
   always_slice = false;
@@ -50,12 +50,12 @@ sum_row r = record {
 }
 
 -- A SUM OF 64 BITS
--- V22: the sum of VADDLV or VMLALDAV after beat b (DDI0553, "VADDLV" and "VMLALDAV")
+-- V22: the sum of VADDLV, VADDLVA, VMLALDAV or VMLALDAVA after beat b (DDI0553, "VADDLV" and "VMLALDAV")
 abbrev pub long_next : LongSums → ℕ → List Bool → List ℕ → ℕ
 long_next r b active (low ∷ high ∷ x ∷ y ∷ vs) = sum_after (2 ^ 64) r.goes_on r.terms b active x y (low + 2 ^ 32 * high)
 long_next r b active _ = 0
 
--- V22: VADDLV and VMLALDAV, beat by beat (DDI0553, "VADDLV" and "VMLALDAV")
+-- V22: VADDLV, VADDLVA, VMLALDAV and VMLALDAVA, beat by beat (DDI0553, "VADDLV" and "VMLALDAV")
 abbrev pub long_row : LongSums → Row
 long_row r = record {
   always_slice = false;

@@ -104,18 +104,19 @@ gives_unsigned narrowing.Unsigned = true
 gives_unsigned narrowing.ToUnsigned = true
 gives_unsigned n = false
 
--- V16: the narrow element of a wide one, brought into its range where the instruction saturates (DDI0553, "VMOVN", "VQMOVN" and "VQMOVUN")
+-- V16: the narrow element of a wide one that VMOVN gives, or that VQMOVN and VQMOVUN give, brought into its range
+-- (DDI0553, "VMOVN", "VQMOVN" and "VQMOVUN")
 abbrev pub narrowed : NarrowingName → Size → Size → ℕ → ℕ
 narrowed f wide small x =
     let v = lane_value (takes_unsigned f) wide x in
     cut small (cond (narrowing_saturates f) (clamped (gives_unsigned f) small v) v)
 
--- V16: whether a wide element is outside the range of the narrow one (DDI0553, "VMOVN", "VQMOVN" and "VQMOVUN")
+-- V16: whether a wide element of VMOVN, VQMOVN or VQMOVUN is outside the range of the narrow one (DDI0553, "VMOVN", "VQMOVN" and "VQMOVUN")
 abbrev pub narrowing_outside : NarrowingName → Size → Size → ℕ → Bool
 narrowing_outside f wide small x = is_outside (gives_unsigned f) small (lane_value (takes_unsigned f) wide x)
 
--- V16: narrow elements in the lower or the upper part of the wide ones' places: of two halves or of the whole of an operand's four bytes
--- (DDI0553, "VMOVN", "VQMOVN" and "VQMOVUN")
+-- V16: narrow elements in the lower part of the wide ones' places by VMOVNB, VQMOVNB and VQMOVUNB, in the upper by VMOVNT, VQMOVNT and VQMOVUNT:
+-- of two halves or of the whole of an operand's four bytes (DDI0553, "VMOVN", "VQMOVN" and "VQMOVUN")
 abbrev pub narrowing_bytes : Bool → Bool → NarrowingName → List ℕ → List ℕ → List ℕ
 narrowing_bytes false false f (a ∷ b ∷ c ∷ d ∷ l) (p ∷ q ∷ r ∷ s ∷ v) = narrowed f Half Byte (p + 256 * q) ∷ b ∷ narrowed f Half Byte (r + 256 * s) ∷ d ∷ []
 narrowing_bytes false true f (a ∷ b ∷ c ∷ d ∷ l) (p ∷ q ∷ r ∷ s ∷ v) = a ∷ narrowed f Half Byte (p + 256 * q) ∷ c ∷ narrowed f Half Byte (r + 256 * s) ∷ []
@@ -125,7 +126,8 @@ narrowing_bytes true true f (a ∷ b ∷ c ∷ d ∷ l) (p ∷ q ∷ r ∷ s ∷
     let n = narrowed f Word Half (p + 256 * q + 65536 * r + 16777216 * s) in a ∷ b ∷ n % 256 ∷ n / 256 ∷ []
 narrowing_bytes z t f _ _ = []
 
--- V16: where wide elements are outside the range of the narrow ones, at the lowest byte of each narrow one (DDI0553, "VMOVN", "VQMOVN" and "VQMOVUN")
+-- V16: where wide elements of VMOVN, VQMOVN or VQMOVUN are outside the range of the narrow ones, at the lowest byte of each narrow one
+-- (DDI0553, "VMOVN", "VQMOVN" and "VQMOVUN")
 abbrev pub narrowing_tests : Bool → Bool → NarrowingName → List ℕ → List Bool
 narrowing_tests false false f (p ∷ q ∷ r ∷ s ∷ v) =
     narrowing_outside f Half Byte (p + 256 * q) ∷ false ∷ narrowing_outside f Half Byte (r + 256 * s) ∷ false ∷ []
@@ -135,7 +137,8 @@ narrowing_tests true false f (p ∷ q ∷ r ∷ s ∷ v) = narrowing_outside f W
 narrowing_tests true true f (p ∷ q ∷ r ∷ s ∷ v) = false ∷ false ∷ narrowing_outside f Word Half (p + 256 * q + 65536 * r + 16777216 * s) ∷ false ∷ []
 narrowing_tests z t f _ = []
 
--- V16: the new word of VMOVN, VQMOVN or VQMOVUN, by the old word and that of the operand (DDI0553, "VMOVN", "VQMOVN" and "VQMOVUN")
+-- V16: the new word of VMOVNB, VMOVNT, VQMOVNB, VQMOVNT, VQMOVUNB or VQMOVUNT, by the old word and that of the operand
+-- (DDI0553, "VMOVN", "VQMOVN" and "VQMOVUN")
 abbrev pub narrowing_new : V16 → List ℕ → ℕ
 narrowing_new r (old ∷ x ∷ vs) = word_of (narrowing_bytes (nat_eq r.z.value 1) (nat_eq r.t.value 1) r.name (bytes_of old) (bytes_of x))
 narrowing_new r _ = 0
@@ -145,7 +148,7 @@ abbrev pub narrowing_mark : V16 → List Bool → List ℕ → Bool
 narrowing_mark r active (old ∷ x ∷ vs) = any_both active (narrowing_tests (nat_eq r.z.value 1) (nat_eq r.t.value 1) r.name (bytes_of x))
 narrowing_mark r active _ = false
 
--- V16: VMOVN, VQMOVN and VQMOVUN, beat by beat (DDI0553, "VMOVN", "VQMOVN" and "VQMOVUN")
+-- V16: VMOVNB, VMOVNT, VQMOVNB, VQMOVNT, VQMOVUNB and VQMOVUNT, beat by beat (DDI0553, "VMOVN", "VQMOVN" and "VQMOVUN")
 abbrev pub narrowing_row : V16 → Row
 narrowing_row r = words_row false r.d.value (λ b. word_place r.m.value b ∷ []) (λ b slice. narrowing_new r)
     (cond (narrowing_saturates r.name) (Some (λ b. narrowing_mark r)) None)
@@ -172,7 +175,7 @@ abbrev pub flags_before : CarryName → List ℕ → ℕ
 flags_before name [] = cond (subtracts name) 2 0
 flags_before name (flags ∷ vs) = flags
 
--- V8: the sum of two words and the carry, in 33 bits; VSBC and VSBCI invert the second word (DDI0553, "VADC" and "VSBC")
+-- V8: the sum of two words and the carry, in 33 bits, by VADC and VADCI; VSBC and VSBCI invert the second word (DDI0553, "VADC" and "VSBC")
 abbrev pub carry_sum : CarryName → List ℕ → ℕ
 carry_sum name (old ∷ x ∷ y ∷ flags) = x + cond (subtracts name) (0xffffffff - y) y + flags_before name flags / 2 % 2
 carry_sum name _ = 0
@@ -181,7 +184,8 @@ carry_sum name _ = 0
 abbrev pub carry_new : CarryName → List ℕ → ℕ
 carry_new name vs = carry_sum name vs % 2 ^ 32
 
--- V8: the flags after a word: an active one leaves its carry, and an inactive one the flags before it (DDI0553, "VADC" and "VSBC")
+-- V8: the flags after a word of VADC, VADCI, VSBC or VSBCI: an active one leaves its carry, and an inactive one the flags before it
+-- (DDI0553, "VADC" and "VSBC")
 abbrev pub carry_flags : CarryName → List Bool → List ℕ → ℕ
 carry_flags name active (old ∷ x ∷ y ∷ flags) = cond (first active) (2 * (carry_sum name (old ∷ x ∷ y ∷ flags) / 2 ^ 32)) (flags_before name flags)
 carry_flags name active _ = 0
@@ -231,7 +235,7 @@ abbrev pub round_places : Option (Below 6) → List Place
 round_places None = []
 round_places (Some r) = R (2 * r.value + 1) ∷ []
 
--- V19: the number in that register, where it was read (DDI0553, "VIDUP, VIWDUP" and "VDDUP, VDWDUP")
+-- V19: the number at which the offsets of VIWDUP and VDWDUP go round, where it was read (DDI0553, "VIDUP, VIWDUP" and "VDDUP, VDWDUP")
 abbrev pub round_of : List ℕ → Option ℕ
 round_of [] = None
 round_of (m ∷ vs) = Some m
@@ -248,12 +252,12 @@ stepped offsets.Down step (Some m) o = (cond (eqb o 0) m o + (2 ^ 32 - step)) % 
 abbrev pub next_offset : Steps → Option ℕ → ℕ → ℕ
 next_offset r m o = stepped r.name (2 ^ r.k.value) m o
 
--- V19: the offset after n steps (DDI0553, "VIDUP, VIWDUP" and "VDDUP, VDWDUP")
+-- V19: the offset of VIDUP, VIWDUP, VDDUP or VDWDUP after n steps (DDI0553, "VIDUP, VIWDUP" and "VDDUP, VDWDUP")
 abbrev pub offset_after : Steps → Option ℕ → ℕ → ℕ → ℕ
 offset_after r m zero o = o
 offset_after r m (suc n) o = next_offset r m (offset_after r m n o)
 
--- V19: n offsets from one on (DDI0553, "VIDUP, VIWDUP" and "VDDUP, VDWDUP")
+-- V19: n offsets of VIDUP, VIWDUP, VDDUP or VDWDUP from one on (DDI0553, "VIDUP, VIWDUP" and "VDDUP, VDWDUP")
 abbrev pub offsets_from : Steps → Option ℕ → ℕ → ℕ → List ℕ
 offsets_from r m zero o = []
 offsets_from r m (suc n) o = o ∷ offsets_from r m n (next_offset r m o)
@@ -265,7 +269,8 @@ offsets_new r b (old ∷ o ∷ ms) =
     word_of (unlanes r.z (offsets_from r m (per_word r.z) (offset_after r m (per_word r.z * b) o)))
 offsets_new r b _ = 0
 
--- V19: the offset after all elements of a vector register, which goes back to the core register (DDI0553, "VIDUP, VIWDUP" and "VDDUP, VDWDUP")
+-- V19: the offset of VIDUP, VIWDUP, VDDUP or VDWDUP after all elements of a vector register, which goes back to the core register
+-- (DDI0553, "VIDUP, VIWDUP" and "VDDUP, VDWDUP")
 abbrev pub offsets_last : Steps → List ℕ → ℕ
 offsets_last r (old ∷ o ∷ ms) = offset_after r (round_of ms) (4 * per_word r.z) o
 offsets_last r _ = 0
@@ -284,7 +289,7 @@ offsets_row r = record {
 }
 
 -- A CHOICE
--- V21: the bytes of Qn where P0 has a bit, and those of Qm elsewhere (DDI0553, "VPSEL")
+-- V21: the new word of VPSEL: the bytes of Qn where P0 has a bit, and those of Qm elsewhere (DDI0553, "VPSEL")
 abbrev pub select_new : ℕ → List ℕ → ℕ
 select_new slice (old ∷ x ∷ y ∷ vs) = word_of (merged (truths slice) (bytes_of y) (bytes_of x))
 select_new slice _ = 0
@@ -294,7 +299,8 @@ abbrev pub select_row : Select → Row
 select_row r = words_row true r.d.value (λ b. word_place r.n.value b ∷ word_place r.m.value b ∷ []) (λ b. select_new) None
 
 -- LONG PRODUCTS
--- V6: the word of a register that elements of beat b stand in; both words of a product of 64 bits come of one (DDI0553, "VMULL (integer)")
+-- V6: the word of a register that elements of beat b of VMULLB or VMULLT stand in; both words of a product of 64 bits come of one
+-- (DDI0553, "VMULL (integer)")
 abbrev pub long_product_at : V6 → ℕ → ℕ
 long_product_at r b = cond (nat_eq r.z.value 2) (2 * (b / 2) + r.t.value) b
 
@@ -335,7 +341,8 @@ long_product_row r = words_row false r.d.value (λ b. word_place r.n.value (long
 abbrev pub other_word : ℕ → ℕ
 other_word b = cond (eqb (b % 2) 0) (b + 1) (b - 1)
 
--- V9: the word of the second operand that beat b takes: the other one of its pair where elements are words, and else word b (DDI0553, "VCADD" and "VHCADD")
+-- V9: the word of the second operand that beat b of VCADD or VHCADD takes: the other one of its pair where elements are words, and else word b
+-- (DDI0553, "VCADD" and "VHCADD")
 abbrev pub complex_sum_at : V9 → ℕ → ℕ
 complex_sum_at r b = cond (nat_eq r.z.value 2) (other_word b) b
 
@@ -354,11 +361,12 @@ abbrev pub halves : ComplexSumName → Bool
 halves complex_sum.Cadd = false
 halves complex_sum.Hcadd = true
 
--- V9: whether its neighbour is taken from an element and not added: from even ones for 90, from odd ones for 270 (DDI0553, "VCADD" and "VHCADD")
+-- V9: whether by VCADD and VHCADD its neighbour is taken from an element and not added: from even ones for 90, from odd ones for 270
+-- (DDI0553, "VCADD" and "VHCADD")
 abbrev pub takes_away : V9 → Bool → Bool
 takes_away r even = cond (nat_eq r.t.value 0) even (not even)
 
--- V9: a sum or a difference of two numbers, halved or not (DDI0553, "VCADD" and "VHCADD")
+-- V9: a sum or a difference of two numbers, as it is for VCADD, halved for VHCADD (DDI0553, "VCADD" and "VHCADD")
 abbrev pub combined : Bool → Bool → ℤ → ℤ → ℤ
 combined minus half a b = let v = cond minus (a -ℤ b) (a +ℤ b) in cond half (halved v) v
 
@@ -366,7 +374,7 @@ combined minus half a b = let v = cond minus (a -ℤ b) (a +ℤ b) in cond half 
 abbrev pub complex_sum_lane : V9 → Size → Bool → ℕ → ℕ → ℕ
 complex_sum_lane r z even x y = cut z (combined (takes_away r even) (halves r.name) (lane_value false z x) (lane_value false z y))
 
--- V9: whether the number of the first element of word b is even (DDI0553, "VCADD" and "VHCADD")
+-- V9: whether the number of the first element of word b of VCADD or VHCADD is even (DDI0553, "VCADD" and "VHCADD")
 abbrev pub begins_even : V9 → ℕ → Bool
 begins_even r b = not (nat_eq r.z.value 2) || eqb (b % 2) 0
 
@@ -385,12 +393,12 @@ complex_sum_row r = words_row false r.d.value (λ b. word_place r.n.value b ∷ 
     None
 
 -- ELEMENTS IN REVERSE
--- V14: the word that beat b is made of: groups of 64 bits exchange their words (DDI0553, "VREV64", "VREV32" and "VREV16")
+-- V14: the word that beat b of VREV64, VREV32 or VREV16 is made of: VREV64 exchanges the two words of 64 bits (DDI0553, "VREV64", "VREV32" and "VREV16")
 abbrev pub reversed_at : ReverseName → ℕ → ℕ
 reversed_at rev.Rev64 b = other_word b
 reversed_at name b = b
 
--- V14: the elements of a word in reverse; groups of 16 bits are pairs of bytes (DDI0553, "VREV64", "VREV32" and "VREV16")
+-- V14: the elements of a word in reverse, by VREV64 and VREV32; VREV16 exchanges the bytes of each pair (DDI0553, "VREV64", "VREV32" and "VREV16")
 abbrev pub reversed_word : ReverseName → Size → ℕ → ℕ
 reversed_word rev.Rev16 z x = word_of (exchanged (bytes_of x))
 reversed_word name z x = word_of (unlanes z (reverse (lanes z (bytes_of x))))
@@ -405,19 +413,19 @@ abbrev pub reversed_row : V14 → Row
 reversed_row r = words_row false r.d.value (λ b. word_place r.m.value (reversed_at r.name b) ∷ []) (λ b slice. reversed_new r) None
 
 -- LANES WIDENED
--- V12: a lane extended and shifted, which is times a factor (DDI0553, "VSHLL" and "VMOVL")
+-- V12: a lane of VSHLLB, VSHLLT, VMOVLB or VMOVLT extended and shifted, which is times a factor (DDI0553, "VSHLL" and "VMOVL")
 abbrev pub widened : Widening → Size → ℕ → ℕ
 widened r z x = extended_lane r.unsigned z x * r.factor % 2 ^ 64
 
--- V12: the even or the odd lanes of a word widened, in lanes of twice their size (DDI0553, "VSHLL" and "VMOVL")
+-- V12: the even lanes of a word widened by VSHLLB and VMOVLB, the odd ones by VSHLLT and VMOVLT, in lanes of twice their size (DDI0553, "VSHLL" and "VMOVL")
 abbrev pub long_lanes : Widening → Size → Size → ℕ → ℕ
 long_lanes r z wide x = word_of (unlanes wide (map (widened r z) (every_second r.odd (lanes z (bytes_of x)))))
 
--- V12: the new word of VSHLL or VMOVL, by that of the operand, whose lanes are halfwords or bytes (DDI0553, "VSHLL" and "VMOVL")
+-- V12: the new word of VSHLLB, VSHLLT, VMOVLB or VMOVLT, by that of the operand, whose lanes are halfwords or bytes (DDI0553, "VSHLL" and "VMOVL")
 abbrev pub widening_word : Widening → ℕ → ℕ
 widening_word r x = cond r.halves (long_lanes r Half Word x) (long_lanes r Byte Half x)
 
--- V12: the new word of VSHLL or VMOVL, by what was read (DDI0553, "VSHLL" and "VMOVL")
+-- V12: the new word of VSHLLB, VSHLLT, VMOVLB or VMOVLT, by what was read (DDI0553, "VSHLL" and "VMOVL")
 abbrev pub widening_new : Widening → List ℕ → ℕ
 widening_new r (old ∷ x ∷ vs) = widening_word r x
 widening_new r _ = 0

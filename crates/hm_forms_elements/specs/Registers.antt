@@ -48,12 +48,12 @@ abbrev pub lanes_whole : Lanes → State → State
 lanes_whole l s = saturating (saturates l.f && any_both (predicate_at s) (lanes_saturated l s)) (merges l.d.value (lanes_result l s) s) s
 
 -- CONSTANTS, CHOICES, NARROW ELEMENTS
--- V15: a constant of four words takes the register's place, or its bits are set or cleared there
+-- V15: a constant of four words takes the register's place by VMOV and VMVN, its bits are set there by VORR, or cleared by VBIC
 -- (DDI0553, "VMOV (immediate) (vector)", "VMVN (immediate)", "VORR (immediate)" and "VBIC (immediate)")
 abbrev pub constant_result : V15 → State → List ℕ
 constant_result r s = unlanes Word (paired (constant_op r) (words_at r.d.value s) (map (imm_word r) (0 ∷ 1 ∷ 2 ∷ 3 ∷ [])))
 
--- V21: the bytes of one register where P0 has a bit, and those of the other elsewhere (DDI0553, "VPSEL")
+-- V21: the 16 new bytes of VPSEL: those of one register where P0 has a bit, and those of the other elsewhere (DDI0553, "VPSEL")
 abbrev pub select_result : Select → State → List ℕ
 select_result r s = merged (truths (at (P0 0) s) ++ truths (at (P0 1) s) ++ truths (at (P0 2) s) ++ truths (at (P0 3) s)) (register_at r.m.value s)
     (register_at r.n.value s)
@@ -68,45 +68,47 @@ abbrev pub placed_tests : Bool → List Bool → List Bool
 placed_tests odd (t ∷ ts) = cond odd false t ∷ cond odd t false ∷ placed_tests odd ts
 placed_tests odd [] = []
 
--- V16: the wide elements of the operand, each narrowed to one of half the size, in the even places or in the odd ones
--- (DDI0553, "VMOVN", "VQMOVN" and "VQMOVUN")
+-- V16: the wide elements of the operand, each narrowed to one of half the size, in the even places by VMOVNB, VQMOVNB and VQMOVUNB,
+-- or in the odd ones by VMOVNT, VQMOVNT and VQMOVUNT (DDI0553, "VMOVN", "VQMOVN" and "VQMOVUN")
 abbrev pub narrowed_result : V16 → Size → Size → State → List ℕ
 narrowed_result r wide small s =
     unlanes small (placed (nat_eq r.t.value 1) (elements small r.d.value s) (map (narrowed r.name wide small) (elements wide r.m.value s)))
 
--- V16: the 16 new bytes of VMOVN, VQMOVN and VQMOVUN (DDI0553, "VMOVN", "VQMOVN" and "VQMOVUN")
+-- V16: the 16 new bytes of VMOVNB, VMOVNT, VQMOVNB, VQMOVNT, VQMOVUNB and VQMOVUNT (DDI0553, "VMOVN", "VQMOVN" and "VQMOVUN")
 abbrev pub narrowing_result : V16 → State → List ℕ
 narrowing_result r s = cond (nat_eq r.z.value 1) (narrowed_result r Word Half s) (narrowed_result r Half Byte s)
 
--- V16: where wide elements of the operand are outside the range of narrow ones, at the lowest byte of each narrow one
+-- V16: where wide elements of the operand of VMOVN, VQMOVN or VQMOVUN are outside the range of narrow ones, at the lowest byte of each narrow one
 -- (DDI0553, "VMOVN", "VQMOVN" and "VQMOVUN")
 abbrev pub narrowed_tests : V16 → Size → Size → State → List Bool
 narrowed_tests r wide small s = spread small (placed_tests (nat_eq r.t.value 1) (map (narrowing_outside r.name wide small) (elements wide r.m.value s)))
 
--- V16: where elements saturate, at the lowest byte of each narrow one (DDI0553, "VMOVN", "VQMOVN" and "VQMOVUN")
+-- V16: where wide elements of VMOVN, VQMOVN or VQMOVUN, of the size that the row says, are outside the range of narrow ones
+-- (DDI0553, "VMOVN", "VQMOVN" and "VQMOVUN")
 abbrev pub narrowing_saturated : V16 → State → List Bool
 narrowing_saturated r s = cond (nat_eq r.z.value 1) (narrowed_tests r Word Half s) (narrowed_tests r Half Byte s)
 
--- V16: VMOVN, VQMOVN and VQMOVUN as a whole, with QC (DDI0553, "VMOVN", "VQMOVN" and "VQMOVUN")
+-- V16: VMOVNB, VMOVNT, VQMOVNB, VQMOVNT, VQMOVUNB and VQMOVUNT as a whole, with QC (DDI0553, "VMOVN", "VQMOVN" and "VQMOVUN")
 abbrev pub narrowing_whole : V16 → State → State
 narrowing_whole r s =
     saturating (narrowing_saturates r.name && any_both (predicate_at s) (narrowing_saturated r s)) (merges r.d.value (narrowing_result r s) s) s
 
 -- A CARRY from word to word
--- V8: two words and a carry, which stands in bit 1 of the flags; the second word is inverted where it is to be taken away (DDI0553, "VADC" and "VSBC")
+-- V8: the sum of two words and a carry, which stands in bit 1 of the flags, by VADC and VADCI; VSBC and VSBCI invert the second word
+-- (DDI0553, "VADC" and "VSBC")
 abbrev pub sum_with : CarryName → ℕ → ℕ → ℕ → ℕ
 sum_with name flags x y = x + cond (subtracts name) (0xffffffff - y) y + flags / 2 % 2
 
--- V8: an active word gives its carry, and another one leaves the flags (DDI0553, "VADC" and "VSBC")
+-- V8: the flags after a word of VADC, VADCI, VSBC or VSBCI: an active one gives its carry, and another one leaves the flags (DDI0553, "VADC" and "VSBC")
 abbrev pub flags_after : CarryName → Bool → ℕ → ℕ → ℕ → ℕ
 flags_after name active flags x y = cond active (2 * (sum_with name flags x y / 2 ^ 32)) flags
 
--- V8: the sums of words one after another, each with the carry that those before it leave (DDI0553, "VADC" and "VSBC")
+-- V8: the sums of words one after another by VADC, VADCI, VSBC or VSBCI, each with the carry that those before it leave (DDI0553, "VADC" and "VSBC")
 abbrev pub sums_from : CarryName → List Bool → List ℕ → List ℕ → ℕ → List ℕ
 sums_from name (p ∷ ps) (x ∷ xs) (y ∷ ys) flags = sum_with name flags x y % 2 ^ 32 ∷ sums_from name ps xs ys (flags_after name p flags x y)
 sums_from name _ _ _ flags = []
 
--- V8: the flags after the sums of all words one after another (DDI0553, "VADC" and "VSBC")
+-- V8: the flags after the sums of all words one after another by VADC, VADCI, VSBC or VSBCI (DDI0553, "VADC" and "VSBC")
 abbrev pub flags_from : CarryName → List Bool → List ℕ → List ℕ → ℕ → ℕ
 flags_from name (p ∷ ps) (x ∷ xs) (y ∷ ys) flags = flags_from name ps xs ys (flags_after name p flags x y)
 flags_from name _ _ _ flags = flags
@@ -125,16 +127,16 @@ abbrev pub carry_writes : V8 → State → List (Cell × Value)
 carry_writes r s = carry_under (predicate_at s) r s
 
 -- BITS from word to word
--- V17: what an active word lets out, and what goes by another one (DDI0553, "VSHLC")
+-- V17: what an active word of VSHLC lets out, and what goes by another one (DDI0553, "VSHLC")
 abbrev pub bits_after : ℕ → Bool → ℕ → ℕ → ℕ
 bits_after n active m c = cond active (c / 2 ^ (32 - n)) m
 
--- V17: words shifted up by n one after another, each taking in the bits before it (DDI0553, "VSHLC")
+-- V17: words shifted up by n one after another by VSHLC, each taking in the bits before it (DDI0553, "VSHLC")
 abbrev pub shifted_from : ℕ → List Bool → List ℕ → ℕ → List ℕ
 shifted_from n (p ∷ ps) (c ∷ cs) m = (c * 2 ^ n % 2 ^ 32 + m % 2 ^ n) ∷ shifted_from n ps cs (bits_after n p m c)
 shifted_from n _ _ m = []
 
--- V17: the bits that come out after all words were shifted one after another (DDI0553, "VSHLC")
+-- V17: the bits that come out after VSHLC has shifted all words one after another (DDI0553, "VSHLC")
 abbrev pub bits_from : ℕ → List Bool → List ℕ → ℕ → ℕ
 bits_from n (p ∷ ps) (c ∷ cs) m = bits_from n ps cs (bits_after n p m c)
 bits_from n _ _ m = m
@@ -153,13 +155,14 @@ abbrev pub shift_writes : V17 → State → List (Cell × Value)
 shift_writes r s = shift_under (predicate_at s) r s
 
 -- NEIGHBOURS
--- V9: to each element its neighbour is added, or it is taken away (DDI0553, "VCADD" and "VHCADD")
+-- V9: the 16 new bytes of VCADD and VHCADD: to each element its neighbour is added, or it is taken away, and by VHCADD halved (DDI0553, "VCADD" and "VHCADD")
 abbrev pub complex_sum_result : V9 → State → List ℕ
 complex_sum_result r s =
     let z = size_of r.z.value in
     unlanes z (in_turn (complex_sum_lane r z) true (elements z r.n.value s) (exchanged (elements z r.m.value s)))
 
--- V12: every second element of one size becomes one of the other (DDI0553, "VSHLL" and "VMOVL")
+-- V12: every second element of one size, the even ones by VSHLLB and VMOVLB, the odd ones by VSHLLT and VMOVLT, becomes one of the other
+-- (DDI0553, "VSHLL" and "VMOVL")
 abbrev pub widened_result : Widening → Size → Size → State → List ℕ
 widened_result r z wide s = unlanes wide (map (widened r z) (every_second r.odd (elements z r.m.value s)))
 
@@ -175,7 +178,7 @@ products_of r xs ys = let odd = nat_eq r.t.value 1 in paired (product r) (every_
 abbrev pub long_bytes : List ℕ → List ℕ
 long_bytes l = flat_map (λ (x : ℕ). bytes_of x ++ bytes_of (x / 2 ^ 32)) l
 
--- V6: the products of every second elements of a size, each of twice that size (DDI0553, "VMULL (integer)")
+-- V6: the 16 new bytes of VMULLB and VMULLT: the products of every second elements of a size, each of twice that size (DDI0553, "VMULL (integer)")
 abbrev pub long_product_result : V6 → Size → State → List ℕ
 long_product_result r Byte s = unlanes Half (products_of r (elements Byte r.n.value s) (elements Byte r.m.value s))
 long_product_result r Half s = unlanes Word (products_of r (elements Half r.n.value s) (elements Half r.m.value s))
@@ -191,8 +194,8 @@ abbrev pub eights : List ℕ → List ℕ
 eights (a ∷ b ∷ c ∷ d ∷ e ∷ f ∷ g ∷ h ∷ l) = h ∷ g ∷ f ∷ e ∷ d ∷ c ∷ b ∷ a ∷ eights l
 eights l = l
 
--- V14: elements in reverse within groups of 64, 32 or 16 bits; a group of one element stays, and no row has elements that are longer than a group
--- (DDI0553, "VREV64", "VREV32" and "VREV16")
+-- V14: elements in reverse within groups of 64 bits by VREV64, of 32 by VREV32 and of 16 by VREV16; a group of one element stays, and no row has elements
+-- that are longer than a group (DDI0553, "VREV64", "VREV32" and "VREV16")
 abbrev pub in_groups : ReverseName → Size → List ℕ → List ℕ
 in_groups rev.Rev64 Byte l = eights l
 in_groups rev.Rev64 Half l = fours l
@@ -208,7 +211,7 @@ in_groups rev.Rev16 Word l = l
 abbrev pub reversed_result : V14 → State → List ℕ
 reversed_result r s = let z = size_of r.z.value in unlanes z (in_groups r.name z (elements z r.m.value s))
 
--- V19: where offsets go round (DDI0553, "VIDUP, VIWDUP" and "VDDUP, VDWDUP")
+-- V19: the number at which the offsets of VIWDUP and VDWDUP go round, where there is one (DDI0553, "VIDUP, VIWDUP" and "VDDUP, VDWDUP")
 abbrev pub round_at : Option (Below 6) → State → Option ℕ
 round_at None s = None
 round_at (Some q) s = Some (at (R (2 * q.value + 1)) s)

@@ -13,7 +13,7 @@ use Rattle.hm_lane_fns.specs.Words.{both, filled, nibble, operand_of, operand_pl
 use Rattle.hm_forms_predicate.specs.declared.compare.Comparison.{Comparison}
 
 -- THE PREDICATE ITSELF
--- V20: whether condition c holds of two lanes: eq, ne; without a sign cs, hi; with a sign ge, lt, gt, le (DDI0553, "VCMP (vector)" and "VPT")
+-- V20: whether condition c of VCMP or VPT holds of two lanes: eq, ne; without a sign cs, hi; with a sign ge, lt, gt, le (DDI0553, "VCMP (vector)" and "VPT")
 abbrev pub compares : ℕ → Size → ℕ → ℕ → Bool
 compares c z x y =
     if nat_eq c 0 then eqb x y
@@ -51,7 +51,7 @@ block_mask k = cond (eqb k 0) None (Some k)
 abbrev pub compare_row : Comparison → Row
 compare_row r = slice_row false (λ b. word_place r.n.value b ∷ operand_places r.by b) (λ b slice. compare_slice r) (block_mask r.k.value)
 
--- V21: the bytes of word b that the first n elements have (DDI0553, "VCTP")
+-- V21: the bytes of word b that the first n elements, which VCTP counts, have (DDI0553, "VCTP")
 abbrev pub counted : ℕ → ℕ → ℕ → List Bool
 counted z n b = ltb (4 * b) (n * 2 ^ z) ∷ ltb (4 * b + 1) (n * 2 ^ z) ∷ ltb (4 * b + 2) (n * 2 ^ z) ∷ ltb (4 * b + 3) (n * 2 ^ z) ∷ []
 

@@ -34,16 +34,16 @@ half_writes b l new s =
 abbrev pub predicate_whole : List Bool → Option ℕ → State → State
 predicate_whole l new s = retired (put_all cells (half_writes 0 (take 8 l) new s ++ half_writes 2 (drop 8 l) new s) s)
 
--- V20: where a comparison of elements holds, of active bytes (DDI0553, "VCMP (vector)" and "VPT")
+-- V20: the truth values that VCMP and VPT make: where a comparison of elements holds, of active bytes (DDI0553, "VCMP (vector)" and "VPT")
 abbrev pub compare_result : Comparison → State → List Bool
 compare_result r s = both (filled r.z (paired_tests (compares r.c.value r.z) (elements r.z r.n.value s) (lanes r.z (operand_register r.z r.by s))))
     (predicate_at s)
 
--- V21: the bytes of the first elements, of active bytes (DDI0553, "VCTP")
+-- V21: the truth values that VCTP makes: the bytes of the first elements, of active bytes (DDI0553, "VCTP")
 abbrev pub count_result : Tail → State → List Bool
 count_result r s = both (map (λ k. ltb k (at (R r.n.value) s * 2 ^ r.z.value)) (0 ∷ 1 ∷ 2 ∷ 3 ∷ 4 ∷ 5 ∷ 6 ∷ 7 ∷ 8 ∷ 9 ∷ 10 ∷ 11 ∷ 12 ∷ 13 ∷ 14 ∷ 15 ∷ []))
     (predicate_at s)
 
--- V21: P0 inverted, of active bytes (DDI0553, "VPNOT")
+-- V21: the truth values that VPNOT makes: P0 inverted, of active bytes (DDI0553, "VPNOT")
 abbrev pub invert_result : State → List Bool
 invert_result s = both (negated (truths (at (P0 0) s) ++ truths (at (P0 1) s) ++ truths (at (P0 2) s) ++ truths (at (P0 3) s))) (predicate_at s)

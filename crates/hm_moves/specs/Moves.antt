@@ -85,7 +85,7 @@ abbrev pub asks : ℕ → List ℕ → List (Check Cell Stop)
 asks a [] = []
 asks a (b ∷ bs) = Asks (Byte b) (stop.Tainted a) ∷ asks a bs
 
--- the thread asks for each byte that it loads
+-- the checks of one element: a stop that no taint decides fails, and the thread asks for each byte that it loads
 abbrev pub element_checks : Around → Bool → ℕ → ℕ → List (Check Cell Stop)
 element_checks x store len a = fails (sure_stop x store len a) ++ cond (is_thread x.actor && not store) (asks a (span_bytes a len)) []
 
@@ -171,7 +171,7 @@ moves_leaf i x b ns es advance = record {
   mark = None;
 }
 
--- V24 to V28: VLDRB, VLDRH, VLDRW, VSTRB, VSTRH, VSTRW, VLD2, VLD4, VST2 and VST4: beat b of a row
+-- V24 to V28: VLDRB, VLDRH, VLDRW, VSTRB, VSTRH, VSTRW, VLD20, VLD21, VLD40, VLD41, VLD42, VLD43, VST20, VST21, VST40, VST41, VST42 and VST43: beat b of a row
 -- (DDI0553, "VLDRB, VLDRH, VLDRW", "VSTRB, VSTRH, VSTRW", "VLDRB, VLDRH, VLDRW, VLDRD (vector)", "VSTRB, VSTRH, VSTRW, VSTRD (vector)",
 -- "VLD2", "VLD4", "VST2" and "VST4")
 abbrev pub moves_tree : Moves → Around → ℕ → Tree
@@ -249,8 +249,8 @@ moved i s =
 abbrev pub all_elements : Moves → State → List Element
 all_elements i s = elements_at i 0 s ++ elements_at i 1 s ++ elements_at i 2 s ++ elements_at i 3 s
 
--- V24 to V28: VLDRB, VLDRH, VLDRW, VSTRB, VSTRH, VSTRW, VLD2, VLD4, VST2 and VST4: what four beats come to:
--- the first active element that has a fault gives it, and else all are moved
+-- V24 to V28: VLDRB, VLDRH, VLDRW, VSTRB, VSTRH, VSTRW, VLD20, VLD21, VLD40, VLD41, VLD42, VLD43, VST20, VST21, VST40, VST41, VST42 and VST43:
+-- what four beats come to: the first active element that has a fault gives it, and else all are moved
 -- (DDI0553, "VLDRB, VLDRH, VLDRW", "VSTRB, VSTRH, VSTRW", "VLDRB, VLDRH, VLDRW, VLDRD (vector)", "VSTRB, VSTRH, VSTRW, VSTRD (vector)",
 -- "VLD2", "VLD4", "VST2" and "VST4")
 abbrev pub moves_by_words : Moves → State → Result State Fault

@@ -22,21 +22,21 @@ each_from f j (suc n) = f j ∷ each_from f (j + 1) n
 -- WHERE A ROW FINDS ITS ELEMENTS
 -- how a row finds the elements that it loads or stores
 pub data Found : Type 0 where
-  -- V24 and V25: VLDRB, VLDRH, VLDRW, VSTRB, VSTRH, VSTRW (DDI0553, "VLDRB, VLDRH, VLDRW" and "VSTRB, VSTRH, VSTRW"):
+  -- V24 and V25: VLDRB, VLDRH, VLDRW, VSTRB, VSTRH and VSTRW (DDI0553, "VLDRB, VLDRH, VLDRW" and "VSTRB, VSTRH, VSTRW"):
   -- one behind another, for vector register d: from the base in register n, or from there with the offset; the base may get it too
   contiguous : (d n offset : ℕ) (before back : Bool) → Found
-  -- V26: VLDRB, VLDRH, VLDRW, VSTRB, VSTRH, VSTRW (DDI0553, "VLDRB, VLDRH, VLDRW, VLDRD (vector)" and "VSTRB, VSTRH, VSTRW, VSTRD (vector)"):
+  -- V26: VLDRB, VLDRH, VLDRW, VSTRB, VSTRH and VSTRW (DDI0553, "VLDRB, VLDRH, VLDRW, VLDRD (vector)" and "VSTRB, VSTRH, VSTRW, VSTRD (vector)"):
   -- for d, at the base in n and the offsets in vector register m, times 2 to the power scale
   at_offsets : (d n m scale : ℕ) → Found
   -- V27: VLDRW and VSTRW (DDI0553, "VLDRB, VLDRH, VLDRW, VLDRD (vector)" and "VSTRB, VSTRH, VSTRW, VSTRD (vector)"):
   -- for d, at the addresses in vector register m with the offset added, which m may get
   at_addresses : (d m offset : ℕ) (back : Bool) → Found
-  -- V28: VLD20, VLD21, VLD40 to VLD43, VST20, VST21 and VST40 to VST43 (DDI0553, "VLD2", "VLD4", "VST2" and "VST4"):
+  -- V28: VLD20, VLD21, VLD40, VLD41, VLD42, VLD43, VST20, VST21, VST40, VST41, VST42 and VST43 (DDI0553, "VLD2", "VLD4", "VST2" and "VST4"):
   -- in turn for two registers from d on, or for four, from the base in n: one part of as many as there are registers
   interleaved : (d n : ℕ) (four : Bool) (part : ℕ) (back : Bool) → Found
 
--- V24 to V28: VLDRB, VLDRH, VLDRW, VSTRB, VSTRH, VSTRW, VLD2, VLD4, VST2 and VST4: what a row moves:
--- it stores or loads elements, whose size in memory and in their register it says, with their sign or without
+-- V24 to V28: VLDRB, VLDRH, VLDRW, VSTRB, VSTRH, VSTRW, VLD20, VLD21, VLD40, VLD41, VLD42, VLD43, VST20, VST21, VST40, VST41, VST42 and VST43:
+-- what a row moves: it stores or loads elements, whose size in memory and in their register it says, with their sign or without
 -- (DDI0553, "VLDRB, VLDRH, VLDRW", "VSTRB, VSTRH, VSTRW", "VLDRB, VLDRH, VLDRW, VLDRD (vector)", "VSTRB, VSTRH, VSTRW, VSTRD (vector)",
 -- "VLD2", "VLD4", "VST2" and "VST4")
 pub record Transfer : Type 0 where
@@ -58,7 +58,7 @@ start before offset base = cond before ((base + offset) % 2 ^ 32) base
 abbrev pub registers : Bool → ℕ
 registers four = cond four 4 2
 
--- V28: the number of the first element of beat b in the stream: beat b of a part moves word 4 * part + b of memory
+-- V28: the number in the stream of the first element of beat b of VLD2, VLD4, VST2 or VST4: beat b of a part moves word 4 * part + b of memory
 -- (DDI0553, "VLD2", "VLD4", "VST2" and "VST4")
 abbrev pub stream : ℕ → Size → ℕ → ℕ
 stream part z b = per_word z * (4 * part + b)
@@ -110,7 +110,8 @@ way_writes_lr (at_offsets d n m scale) = false
 way_writes_lr (at_addresses d m offset back) = false
 way_writes_lr (interleaved d n four part back) = back && eqb n 14
 
--- V24 to V28: VLDRB, VLDRH, VLDRW, VSTRB, VSTRH, VSTRW, VLD2, VLD4, VST2 and VST4: a row as what each beat moves
+-- V24 to V28: VLDRB, VLDRH, VLDRW, VSTRB, VSTRH, VSTRW, VLD20, VLD21, VLD40, VLD41, VLD42, VLD43, VST20, VST21, VST40, VST41, VST42 and VST43:
+-- a row as what each beat moves
 -- (DDI0553, "VLDRB, VLDRH, VLDRW", "VSTRB, VSTRH, VSTRW", "VLDRB, VLDRH, VLDRW, VLDRD (vector)", "VSTRB, VSTRH, VSTRW, VSTRD (vector)",
 -- "VLD2", "VLD4", "VST2" and "VST4")
 abbrev pub moves_by : Transfer → Moves
@@ -142,7 +143,8 @@ transfer_of m = record { store = m.store; memory = m.memory; register = m.regist
 abbrev pub moves_of : Move → Moves
 moves_of m = moves_by (transfer_of m)
 
--- V24 to V28: VLDRB, VLDRH, VLDRW, VSTRB, VSTRH, VSTRW, VLD2, VLD4, VST2 and VST4: beat b of a row, by what the code holds
+-- V24 to V28: VLDRB, VLDRH, VLDRW, VSTRB, VSTRH, VSTRW, VLD20, VLD21, VLD40, VLD41, VLD42, VLD43, VST20, VST21, VST40, VST41, VST42 and VST43:
+-- beat b of a row, by what the code holds
 -- (DDI0553, "VLDRB, VLDRH, VLDRW", "VSTRB, VSTRH, VSTRW", "VLDRB, VLDRH, VLDRW, VLDRD (vector)", "VSTRB, VSTRH, VSTRW, VSTRD (vector)",
 -- "VLD2", "VLD4", "VST2" and "VST4")
 abbrev pub move_tree : Move → Around → ℕ → Tree

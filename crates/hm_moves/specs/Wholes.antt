@@ -42,12 +42,12 @@ fault_of store len (p ∷ ps) (a ∷ addrs) = option_or (cond p (fault_after (fa
 fault_of store len _ _ = None
 
 -- A PART OF A REGISTER
--- V28: of four registers each gives or takes one word, and of two registers two words, from this one on
+-- V28: each register gives or takes one word, this one, by VLD4 and VST4, and two words, from this one on, by VLD2 and VST2
 -- (DDI0553, "VLD2", "VLD4", "VST2" and "VST4")
 abbrev pub part_word : Bool → ℕ → ℕ
 part_word four part = cond four part (2 * part)
 
--- V28: the bytes of a register that belong to a part: one word of each of four registers, two words of each of two
+-- V28: the bytes of a register that belong to a part: one word of each of the four registers of VLD4 and VST4, two words of each of the two of VLD2 and VST2
 -- (DDI0553, "VLD2", "VLD4", "VST2" and "VST4")
 abbrev pub part_at : Bool → ℕ → ℕ → State → List ℕ
 part_at four part q s =
@@ -68,8 +68,8 @@ abbrev pub loaded_elements : (ℕ → ℕ) → List Bool → List ℕ → List �
 loaded_elements f (p ∷ ps) (a ∷ addrs) = cond p (f a) 0 ∷ loaded_elements f ps addrs
 loaded_elements f _ _ = []
 
--- V28: of all elements those from number i on that registers which take them in turn leave to one: every second, or every fourth
--- (DDI0553, "VLD2", "VLD4", "VST2" and "VST4")
+-- V28: of all elements those from number i on that registers which take them in turn leave to one: every second by VLD2, every fourth by VLD4
+-- (DDI0553, "VLD2" and "VLD4")
 abbrev pub taken_by : ℕ → ℕ → ℕ → List ℕ → List ℕ
 taken_by all every i xs = each_from (λ e. get_or xs (every * e + i) 0) 0 (all / every)
 
@@ -114,8 +114,8 @@ abbrev pub transferred : Transfer → List Bool → List ℕ → State → List 
 transferred t ps addrs s = cond t.store (element_bytes t.memory ps addrs (stored_elements t.register t.found s))
     (filled_registers t.register t.found (loaded_elements (loaded t s) ps addrs))
 
--- V24 to V28: VLDRB, VLDRH, VLDRW, VSTRB, VSTRH, VSTRW, VLD2, VLD4, VST2 and VST4: the first element that has a fault gives it;
--- else all elements are moved, the base or the addresses are written back, and the masks advance
+-- V24 to V28: VLDRB, VLDRH, VLDRW, VSTRB, VSTRH, VSTRW, VLD20, VLD21, VLD40, VLD41, VLD42, VLD43, VST20, VST21, VST40, VST41, VST42 and VST43:
+-- the first element that has a fault gives it; else all elements are moved, the base or the addresses are written back, and the masks advance
 -- (DDI0553, "VLDRB, VLDRH, VLDRW", "VSTRB, VSTRH, VSTRW", "VLDRB, VLDRH, VLDRW, VLDRD (vector)", "VSTRB, VSTRH, VSTRW, VSTRD (vector)",
 -- "VLD2", "VLD4", "VST2" and "VST4")
 abbrev pub transfer_whole : Transfer → State → Result State Fault
