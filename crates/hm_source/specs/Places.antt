@@ -8,7 +8,7 @@ use Rattle.hm_source.specs.Statements.{Said, nothing, instruction, directive}
 abbrev pub padding : ℕ → ℕ → ℕ
 padding n a = (n - a % n) % n
 
--- how many bytes a line gives that stands at an address
+-- how many bytes a directive gives that stands at an address
 abbrev pub size_asked : Directed → ℕ → ℕ
 size_asked (org b) a = 0
 size_asked (align n) a = padding n a

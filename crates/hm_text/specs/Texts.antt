@@ -30,6 +30,6 @@ pub record HasWidth (text : List ℕ) (n : ℕ) : Type 0 where
 abbrev pub IsShape : List ℕ → ℕ → Option Tok → Type 0
 IsShape text w l = (i : Instr) × (t : Tok) × IsRowText text i t × (w ≡ width_of i) × (l ≡ label_of i t)
 
--- and each has
+-- each row with the text has this width and this label, or none
 abbrev pub IsOnlyShape : List ℕ → ℕ → Option Tok → Type 0
 IsOnlyShape text w l = (i : Instr) (t : Tok) → IsRowText text i t → (w ≡ width_of i) × (l ≡ label_of i t)

@@ -7,7 +7,7 @@ use Rattle.hm_text16_codes.specs.declared.operands.Kind.{Kind}
 use Rattle.hm_text16_codes.specs.declared.operands.Kind.TheVariants as kinds
 use Rattle.hm_text16_codes.specs.declared.operands.Operands.{Operands}
 
--- the number of a register or a condition
+-- the number of a register or a condition, `al` among them; 0 of another word
 unfoldable pub narrow_word_value : List ℕ → ℕ
 narrow_word_value w = unwrap_or (register_in w) (unwrap_or (condition_in w) (if bytes_eq w (codes "al") then 14 else 0))
 

@@ -104,23 +104,23 @@ abbrev pub zero_mnemonic : ZeroName → List ℕ
 zero_mnemonic zero_.Cbz = codes "cbz"
 zero_mnemonic zero_.Cbnz = codes "cbnz"
 
--- S21: the condition of a block, `al` among them (DDI0553, "IT")
+-- S21: the condition of IT, `al` among them (DDI0553, "IT")
 abbrev pub block_condition : ℕ → List ℕ
 block_condition c = get_or (condition_names ++ codes "al" ∷ []) c []
 
--- S21: `t`, for an instruction under the condition of its block (DDI0553, "IT")
+-- S21: `t`, for an instruction under the condition of its IT block (DDI0553, "IT")
 abbrev pub then_letter : ℕ
 then_letter = 116
 
--- S21: `e`, for one under the other condition (DDI0553, "IT")
+-- S21: `e`, for one under the opposite of the condition of its IT block (DDI0553, "IT")
 abbrev pub else_letter : ℕ
 else_letter = 101
 
--- S21: t where the bit of an instruction is the low bit of the condition, and e where it is the other (DDI0553, "IT")
+-- S21: t where the bit of an instruction is the low bit of the condition of its IT block, and e where it is the other (DDI0553, "IT")
 abbrev pub letter : ℕ → ℕ → ℕ
 letter low bit = if nat_eq bit low then then_letter else else_letter
 
--- S21: a letter for each bit of a mask above its lowest 1, from bit 3 down (DDI0553, "IT")
+-- S21: a letter for each bit of the mask of IT above its lowest 1, from bit 3 down (DDI0553, "IT")
 abbrev pub letters_above : ℕ → ℕ → List ℕ
 letters_above low mask =
     if nat_eq (mask % 8) 0 then []
@@ -128,6 +128,6 @@ letters_above low mask =
     else if nat_eq (mask % 2) 0 then letter low (mask / 8) ∷ letter low (mask / 4 % 2) ∷ []
     else letter low (mask / 8) ∷ letter low (mask / 4 % 2) ∷ letter low (mask / 2 % 2) ∷ []
 
--- S21: the first word of a block, `it` and its letters (DDI0553, "IT")
+-- S21: the first word of IT, `it` and its letters (DDI0553, "IT")
 abbrev pub block_first_word : ℕ → ℕ → List ℕ
 block_first_word c mask = codes "it" ++ letters_above (c % 2) mask

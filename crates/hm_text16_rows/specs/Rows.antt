@@ -17,11 +17,13 @@ use Rattle.hm_text16_rows.specs.Mnemonics.{jump_mnemonic, logic_mnemonic, maskin
 use Rattle.hm_text16_rows.specs.Mnemonics.{plain_mnemonic, shift_mnemonic, stack_sum_mnemonic, sum_mnemonic, swap_mnemonic, word_mnemonic, zero_mnemonic}
 
 -- SHAPES
--- S15: the tokens of an access at two registers, `rt,[rn,rm]` (DDI0553, the register form of each, as "STR (register)")
+-- S15: the tokens of STR, STRH, STRB, LDRSB, LDR, LDRH, LDRB and LDRSH at two registers, `rt,[rn,rm]`
+-- (DDI0553, the register form of each, as "STR (register)")
 abbrev pub by_register : List ℕ → ℕ → ℕ → ℕ → List Tok
 by_register name t n m = word name ∷ r t ∷ comma ∷ open_bracket ∷ r n ∷ comma ∷ r m ∷ close_bracket ∷ []
 
--- S16 and S17: the tokens of an access at a number, `rt,[rn,#k]` (DDI0553, the immediate form of each, as "STR (immediate)")
+-- S16 and S17: the tokens of STR, LDR, STRB, LDRB, STRH and LDRH at a register and a number, `rt,[rn,#k]`
+-- (DDI0553, the immediate form of each, as "STR (immediate)")
 abbrev pub by_number : List ℕ → ℕ → ℕ → ℕ → List Tok
 by_number name t n k = word name ∷ r t ∷ comma ∷ inside 1 0 (r n) k
 
@@ -43,7 +45,7 @@ abbrev pub jump_tokens : JumpRow → List Tok
 jump_tokens (s25.Conditional i) = word (branch_mnemonic i.c.value) ∷ []
 jump_tokens (s25.Always i) = word (codes "b") ∷ []
 
--- the tokens of each row; of S14, S24 and S25, which have a label, those before it; S6: ADD, S7: CMP, S8: MOV, S9: ADD, S14: LDR, S18: BKPT
+-- the tokens of each row; of one that has a label, those before it; S6: ADD, S7: CMP, S8: MOV, S9: ADD, S14: LDR, S18: BKPT
 -- (DDI0553, "ADD (register)", "ADD (SP plus register)", "CMP (register)", "MOV (register)", "ADR", "ADD (SP plus immediate)", "LDR (literal)" and "BKPT")
 abbrev pub row_tokens : NarrowRow → List Tok
 row_tokens (narrow.S1 i) = and_constant (two (shift_mnemonic i.name) (r i.d.value) (r i.m.value)) (shift_amount i.name i.i.value)

@@ -70,15 +70,18 @@ letters name s n d is_number last ty k = record {
   k = k;
 }
 
--- T1: a constant is not shifted (DDI0553, "Data-processing (modified immediate)")
+-- T1: the letters of AND, BIC, ORR, ORN, EOR, ADD, ADC, SBC, SUB, RSB, TST, TEQ, CMN, CMP, MOV and MVN, whose constant is not shifted
+-- (DDI0553, "Data-processing (modified immediate)")
 abbrev pub letters_t1 : T1 → Letters
 letters_t1 i = letters i.name i.s.value i.n.value i.d.value true (constant_in i.i.value i.i3.value i.i8.value) 0 0
 
--- T2: a register is shifted by k (DDI0553, "Data-processing (shifted register)")
+-- T2: the letters of AND, BIC, ORR, ORN, EOR, ADD, ADC, SBC, SUB, RSB, TST, TEQ, CMN, CMP, MOV, MVN, LSL, LSR, ASR, ROR and RRX,
+-- whose register m is shifted by k (DDI0553, "Data-processing (shifted register)")
 abbrev pub letters_t2 : T2 → Letters
 letters_t2 i = letters i.name i.s.value i.n.value i.d.value false i.m.value i.ty.value (imm5 i.i3.value i.i2.value)
 
--- T2: what the mnemonic of MOV, of LSL, LSR, ASR and ROR, of RRX, and of MVN says (DDI0553, "Data-processing (shifted register)")
+-- T1 and T2: what the mnemonic of MOV, of LSL, LSR, ASR and ROR, of RRX, and of MVN says
+-- (DDI0553, "Data-processing (modified immediate)" and "Data-processing (shifted register)")
 abbrev pub single_kind : DataName → ℕ → ℕ → ℕ → DataKind
 single_kind data_.Orr s ty k = if is_by_carry ty k then kind.Carry s else if is_unshifted ty k then kind.Move data_.Orr s else kind.Shift ty s
 single_kind name s ty k = kind.Move name s
@@ -203,11 +206,12 @@ label_given t = given_all false true 0 (is_vector t) false false (wide_value t) 
 abbrev pub placed : Bool → ℕ → ℕ → ℕ → ℕ → ℕ → ℕ → ℕ → ℕ → Operands
 placed third p u w a b c e g = given_all false false 0 false false third a b c e g u p w
 
--- T2: how far a register is shifted, as a text has it: by 0 through the carry (DDI0553, "DecodeImmShift")
+-- T2: how far a register is shifted, as a text has it: by 0 through the carry, by RRX (DDI0553, "Data-processing (shifted register)" and "DecodeImmShift")
 abbrev pub number_read : ℕ → ℕ → ℕ
 number_read ty k = if is_by_carry ty k then 0 else shift_number ty k
 
--- T1 and T2: the operands of a row whose mnemonic says this (DDI0553, "Data-processing (modified immediate)" and "Data-processing (shifted register)")
+-- T1 and T2: the operands of AND, BIC, ORR, ORN, EOR, ADD, ADC, SBC, SUB, RSB, TST, TEQ, CMN, CMP, MOV, MVN, RRX, LSL, LSR, ASR and ROR,
+-- by what the mnemonic says (DDI0553, "Data-processing (modified immediate)" and "Data-processing (shifted register)")
 abbrev pub kind_operands : DataKind → Letters → Operands
 kind_operands (kind.Three name s) l = given_sized 0 false l.is_number l.d l.n l.last l.ty (number_read l.ty l.k)
 kind_operands (kind.Test name) l = given_sized 0 l.is_number false l.n l.last l.ty (number_read l.ty l.k) 0
@@ -232,7 +236,7 @@ abbrev pub table_operands : TableName → ℕ → ℕ → Operands
 table_operands table.Tbb n m = given n m 0 0 0
 table_operands table.Tbh n m = given n m 0 1 0
 
--- T18: SYSm of a special register that is written (DDI0553, "MSR (register)")
+-- T18: SYSm of a special register that MSR writes (DDI0553, "MSR (register)")
 abbrev pub written_number : WrittenName → ℕ
 written_number name = written_base name % 2 ^ 8
 
@@ -302,7 +306,7 @@ operands_of (wide.T23 i) t = loop_operands i t
 abbrev pub Asks : WideRow → Tok → List ℕ → Operands → Type 0
 Asks r t s o = (s ≡ mnemonic_of r) × (o ≡ operands_of r t)
 
--- T19: a mnemonic and operands are those of the other text of a row: none, for 15 (DDI0553, "DSB", "DMB" and "ISB")
+-- T19: a mnemonic and operands are those of the other text of DSB, DMB or ISB: none, for 15 (DDI0553, "DSB", "DMB" and "ISB")
 abbrev pub AsksBare : Barrier → List ℕ → Operands → Type 0
 AsksBare i s o = (i.o.value ≡ 15) × (s ≡ barrier_mnemonic i.name) × (o ≡ none_given)
 
@@ -314,11 +318,12 @@ IsCodeOf {A} row s o code = (i : A) (t : Tok) → Asks (row i) t s o → code �
 abbrev pub IsCodeAt : {A : Type 0} → (A → WideRow) → List ℕ → Operands → ℕ → ℕ → Option ℕ → Type 0
 IsCodeAt {A} row s o pc a code = (i : A) (t : Tok) → Asks (row i) t s o → Reaches (target (row i) pc) a → code ≡ Some (wide_code (row i))
 
--- T19: and of the barrier that asks so by its other text (DDI0553, "DSB", "DMB" and "ISB")
+-- T19: and of the one of DSB, DMB and ISB that asks so by its other text (DDI0553, "DSB", "DMB" and "ISB")
 abbrev pub IsBareCode : List ℕ → Operands → Option ℕ → Type 0
 IsBareCode s o code = (i : Barrier) → AsksBare i s o → code ≡ Some (wide_code (wide.T19 (t19.Barrier i)))
 
--- T1: a code of T2 with no registers, and two registers, are given the code with this constant (DDI0553, "Data-processing (modified immediate)")
+-- T1: a code of T2 with no registers, and two registers, are given the code with this constant
+-- (DDI0553, "Data-processing (modified immediate)" and "Data-processing (shifted register)")
 abbrev pub IsConstantCode : ℕ → ℕ → ℕ → ℕ → ℕ → Type 0
 IsConstantCode base n d c code =
     (i : T1) → constant_in i.i.value i.i3.value i.i8.value ≡ c
@@ -330,7 +335,7 @@ IsShiftedCode base n d m ty k code =
     (i : T2) → i.ty.value ≡ ty → number_read i.ty.value (imm5 i.i3.value i.i2.value) ≡ k
     → code ≡ base + ty ↑ 4 + n ↑ 16 + i.i3.value ↑ 12 + d ↑ 8 + i.i2.value ↑ 6 + m
 
--- CODES BY MNEMONICS that no row of T1, T2 and T8 has: what a mnemonic and operands are given, by groups of rows, one within the other
+-- CODES BY MNEMONICS that `kind_in` gives no kind: what a mnemonic and operands are given, by groups of rows, one within the other
 -- T17 to T19, T21 and T22, and T23 with no label: TBB, TBH, MRS, MSR, NOP, DSB, DMB, ISB, VMRS, VMSR, VMOV of a word, DLS, DLSTP and LCTP
 -- (DDI0553, "TBB, TBH", "MRS", "MSR (register)", "NOP", "DSB", "DMB", "ISB", "VMRS", "VMSR", "VMOV (general-purpose register to vector lane)",
 -- "VMOV (vector lane to general-purpose register)", "WLS, DLS, WLSTP, DLSTP" and "LCTP")
@@ -360,7 +365,8 @@ pub record MemoryCodes (s : List ℕ) (o : Operands) (code : Option ℕ) : Type 
   pub t15 : IsCodeOf wide.T15 s o code
   pub system : SystemCodes s o code
 
--- T9 to T11 and T20, and the codes above: SXTH, UXTH, SXTB, UXTB, REV, REV16, RBIT, REVSH, CLZ, products and quotients, CSEL, CSINC, CSINV and CSNEG
+-- T9 to T11 and T20, and the codes above: SXTH, UXTH, SXTB, UXTB, REV, REV16, RBIT, REVSH, CLZ, MUL, MLA, MLS, SMULL, UMULL, SMLAL, UMLAL, SDIV,
+-- UDIV, CSEL, CSINC, CSINV and CSNEG
 -- (DDI0553, "SXTH", "UXTH", "SXTB", "UXTB", "REV", "REV16", "REVSH", "RBIT", "CLZ", "MUL", "MLA", "MLS", "SMULL", "UMULL", "SMLAL", "UMLAL", "SDIV",
 -- "UDIV", "CSEL", "CSINC", "CSINV" and "CSNEG")
 pub record ArithCodes (s : List ℕ) (o : Operands) (code : Option ℕ) : Type 0 where
@@ -373,7 +379,8 @@ pub record ArithCodes (s : List ℕ) (o : Operands) (code : Option ℕ) : Type 0
   pub memory : MemoryCodes s o code
 
 -- T3 to T7, and the codes above: ADDW, SUBW, MOVW, MOVT, SSAT, USAT, SBFX, UBFX, BFI and BFC
--- (DDI0553, "ADD (immediate)", "SUB (immediate)", "ADR", "MOV (immediate)", "MOVT", "SSAT", "USAT", "SBFX", "UBFX", "BFI" and "BFC")
+-- (DDI0553, "ADD (immediate)", "ADD (SP plus immediate)", "SUB (immediate)", "SUB (SP minus immediate)", "ADR", "MOV (immediate)", "MOVT", "SSAT",
+-- "USAT", "SBFX", "UBFX", "BFI" and "BFC")
 pub record NumberCodes (s : List ℕ) (o : Operands) (code : Option ℕ) : Type 0 where
   pub t3 : IsCodeOf wide.T3 s o code
   pub t4 : IsCodeOf wide.T4 s o code

@@ -1,4 +1,4 @@
--- The twelve bits that stand for a constant of T1.
+-- The twelve bits that stand for a constant of T1 (DDI0553, "Data-processing (modified immediate)").
 use Rattle.std.specs.Prelude.{ℕ, zero, suc, ◌+◌, ◌-◌, ◌*◌, ◌/◌, ◌%◌, ◌^◌, nat_lt, ◌==◌, if◌then◌else◌}
 
 -- T1: how far a byte of a constant is shifted left that has its highest bit, by at most n (DDI0553, "Data-processing (modified immediate)")

@@ -97,7 +97,7 @@ wide_branch_names = wide_branch.B ∷ wide_branch.Bl ∷ []
 abbrev pub table_names : List TableName
 table_names = table.Tbb ∷ table.Tbh ∷ []
 
--- T18: special registers: APSR, IPSR, MSP, PSP, PRIMASK, BASEPRI and CONTROL (DDI0553, "MRS" and "MSR (register)")
+-- T18: the special registers of MRS and MSR: APSR, IPSR, MSP, PSP, PRIMASK, BASEPRI and CONTROL (DDI0553, "MRS" and "MSR (register)")
 abbrev pub special_names : List ReadName
 special_names = read.Apsr ∷ read.Ipsr ∷ read.Msp ∷ read.Psp ∷ read.Primask ∷ read.Basepri ∷ read.Control ∷ []
 
@@ -135,7 +135,8 @@ kinds_of_shifts =
     kind.Carry 0 ∷ kind.Carry 1 ∷ kind.Shift 0 0 ∷ kind.Shift 0 1 ∷ kind.Shift 1 0 ∷ kind.Shift 1 1 ∷ kind.Shift 2 0 ∷ kind.Shift 2 1
     ∷ kind.Shift 3 0 ∷ kind.Shift 3 1 ∷ []
 
--- T1, T2 and T8: what a mnemonic of these says
+-- T1, T2 and T8: what a mnemonic says, of AND, BIC, ORR, ORN, EOR, ADD, ADC, SBC, SUB, RSB, TST, TEQ, CMN, CMP, MOV, MVN, RRX, LSL, LSR, ASR and ROR;
+-- None of another
 -- (DDI0553, "Data-processing (modified immediate)", "Data-processing (shifted register)", "LSL (register)", "LSR (register)", "ASR (register)" and
 -- "ROR (register)")
 abbrev pub kind_in : List ℕ → Option DataKind
@@ -143,7 +144,7 @@ kind_in s =
     option_or (option_map (λ p. kind.Three p.0 p.1) (named_with_bit data_mnemonic data_names s))
     (option_or (named kind_mnemonic move_kinds s) (named kind_mnemonic kinds_of_shifts s))
 
--- T8: the number of a shift (DDI0553, "LSL (register)", "LSR (register)", "ASR (register)" and "ROR (register)")
+-- T8: the number of LSL, LSR, ASR and ROR (DDI0553, "LSL (register)", "LSR (register)", "ASR (register)" and "ROR (register)")
 abbrev pub shift_number_of : WideShiftName → ℕ
 shift_number_of wide_shift.Lsl = 0
 shift_number_of wide_shift.Lsr = 1

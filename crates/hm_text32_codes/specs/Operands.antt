@@ -13,11 +13,11 @@ use Rattle.hm_text32_rows.specs.Mnemonics.{carry_mnemonic, read_name, shift_mnem
 use Rattle.hm_text32_codes.specs.declared.operands.Operands.{Operands}
 use Rattle.hm_text32_codes.specs.Names.{shift_numbers, special_names}
 
--- the number of the shift that a word names; RRX is a rotation by 0
+-- the number of the shift that a word names; `rrx` is a rotation by 0 (DDI0553, "DecodeImmShift")
 abbrev pub shift_in : List ℕ → Option ℕ
 shift_in w = option_or (named shift_mnemonic shift_numbers w) (if bytes_eq w (carry_mnemonic 0) then Some 3 else None)
 
--- T18: SYSm, the number of a special register, the lowest byte of a code that reads it (DDI0553, "MRS")
+-- T18: SYSm, the number of a special register, the lowest byte of the code of MRS that reads it (DDI0553, "MRS")
 abbrev pub special_number : ReadName → ℕ
 special_number name = read_base name % 2 ^ 8
 
@@ -25,7 +25,7 @@ special_number name = read_base name % 2 ^ 8
 abbrev pub special_in : List ℕ → Option ℕ
 special_in w = option_map special_number (named read_name special_names w)
 
--- the number of another word: 15 of `zr`, and those of what VMRS and VMSR name; else 0
+-- the number of another word: 15 of `zr` and of `apsr_nzcv`, 1 of `fpscr`, 12 of `vpr` and 13 of `p0`; else 0
 abbrev pub other_wide_word_value : List ℕ → ℕ
 other_wide_word_value w =
     if bytes_eq w (codes "zr") then 15

@@ -40,7 +40,7 @@ use Rattle.hm_isa.specs.declared.system.WrittenName.{WrittenName}
 use Rattle.hm_isa.specs.declared.system.WrittenName.TheVariants as written
 use Rattle.hm_text_rows.specs.Shapes.{either}
 
--- with the point
+-- `.w`, behind the mnemonic of a row that is wide
 abbrev pub wide : List ℕ
 wide = codes ".w"
 
@@ -79,7 +79,8 @@ move_mnemonic name s = []
 abbrev pub shift_mnemonic : ℕ → List ℕ
 shift_mnemonic ty = get_or (codes "lsl" ∷ codes "lsr" ∷ codes "asr" ∷ codes "ror" ∷ []) ty []
 
--- T2: the mnemonic of LSL, LSR, ASR and ROR with a constant, with s where the flags tell the result (DDI0553, "Data-processing (shifted register)")
+-- T2 and T8: the mnemonic of LSL, LSR, ASR and ROR, by the number of the shift, with s where the flags tell the result
+-- (DDI0553, "Data-processing (shifted register)", "LSL (register)", "LSR (register)", "ASR (register)" and "ROR (register)")
 abbrev pub shift_mnemonic_with_flags : ℕ → ℕ → List ℕ
 shift_mnemonic_with_flags ty s = shift_mnemonic ty ++ either s [] (codes "s")
 
@@ -88,7 +89,8 @@ abbrev pub carry_mnemonic : ℕ → List ℕ
 carry_mnemonic s = either s (codes "rrx") (codes "rrxs")
 
 -- T3: the mnemonic of each name, ADDW and SUBW
--- (DDI0553, "ADD (immediate)" and "ADD (SP plus immediate)", encodings T4, "SUB (immediate)", encoding T4, "SUB (SP minus immediate)", encoding T3)
+-- (DDI0553, "ADD (immediate)" and "ADD (SP plus immediate)", encodings T4, "SUB (immediate)", encoding T4, "SUB (SP minus immediate)", encoding T3,
+-- and "ADR", encodings T2 and T3)
 abbrev pub wide_sum_mnemonic : SumName → List ℕ
 wide_sum_mnemonic sum_.Add = codes "addw"
 wide_sum_mnemonic sum_.Sub = codes "subw"
@@ -124,8 +126,8 @@ bits_mnemonic bits.Rbit = codes "rbit"
 bits_mnemonic bits.Revsh = codes "revsh"
 bits_mnemonic bits.Clz = codes "clz"
 
--- T10: what stands behind the mnemonic: REV, REV16 and REVSH, which a row of one halfword has too, are wide (DDI0553, "REV", "REV16", "RBIT", "REVSH"
--- and "CLZ")
+-- T10: what stands behind the mnemonic: REV, REV16 and REVSH, which a row of one halfword has too, are wide, and behind RBIT and CLZ nothing stands
+-- (DDI0553, "REV", "REV16", "RBIT", "REVSH" and "CLZ")
 abbrev pub bits_suffix : BitsName → List ℕ
 bits_suffix bits.Rbit = []
 bits_suffix bits.Clz = []
@@ -184,7 +186,7 @@ wide_list_mnemonic wide_list.Ldmia = codes "ldmia"
 wide_list_mnemonic wide_list.Stmdb = codes "stmdb"
 wide_list_mnemonic wide_list.Ldmdb = codes "ldmdb"
 
--- T14: what stands behind the mnemonic: STMIA and LDMIA, which a row of one halfword has too, are wide
+-- T14: what stands behind the mnemonic: STMIA and LDMIA, which a row of one halfword has too, are wide, and behind STMDB and LDMDB nothing stands
 -- (DDI0553, "STM, STMIA, STMEA", "LDM, LDMIA, LDMFD", "STMDB, STMFD" and "LDMDB, LDMEA")
 abbrev pub wide_list_suffix : WideListName → List ℕ
 wide_list_suffix wide_list.Stmia = wide
@@ -197,7 +199,8 @@ abbrev pub wide_branch_mnemonic : WideBranchName → List ℕ
 wide_branch_mnemonic wide_branch.B = codes "b"
 wide_branch_mnemonic wide_branch.Bl = codes "bl"
 
--- T16: what stands behind the mnemonic: B, which a row of one halfword has too, is wide (DDI0553, "B", encoding T4, and "BL", encoding T1)
+-- T16: what stands behind the mnemonic: B, which a row of one halfword has too, is wide, and behind BL nothing stands
+-- (DDI0553, "B", encoding T4, and "BL", encoding T1)
 abbrev pub wide_branch_suffix : WideBranchName → List ℕ
 wide_branch_suffix wide_branch.B = wide
 wide_branch_suffix wide_branch.Bl = []

@@ -72,13 +72,13 @@ moved_tokens s d m ty k =
     else if is_unshifted ty k then two (move_mnemonic data_.Orr s ++ wide) (r d) (r m)
     else and_constant (two (shift_mnemonic_with_flags ty s ++ wide) (r d) (r m)) (shift_number ty k)
 
--- T2: the tokens of the operations with no first register: MOV and the shifts, and MVN (DDI0553, "Data-processing (shifted register)")
+-- T2: the tokens of the operations with no first register: MOV, LSL, LSR, ASR, ROR, RRX and MVN (DDI0553, "Data-processing (shifted register)")
 abbrev pub single_tokens : DataName → ℕ → ℕ → ℕ → ℕ → ℕ → List Tok
 single_tokens data_.Orr s d m ty k = moved_tokens s d m ty k
 single_tokens name s d m ty k = and_shifted (two (move_mnemonic name s ++ wide) (r d) (r m)) ty k
 
--- T2: the tokens of AND, BIC, ORR, ORN, EOR, ADD, ADC, SBC, SUB and RSB with a shifted register; with 15 for the result TST, TEQ, CMN and CMP
--- (DDI0553, "Data-processing (shifted register)")
+-- T2: the tokens of AND, BIC, ORR, ORN, EOR, ADD, ADC, SBC, SUB and RSB with a shifted register; with 15 for the result TST, TEQ, CMN and CMP,
+-- and with 15 for the first register MOV, LSL, LSR, ASR, ROR, RRX and MVN (DDI0553, "Data-processing (shifted register)")
 abbrev pub data_tokens : DataName → ℕ → ℕ → ℕ → ℕ → ℕ → ℕ → List Tok
 data_tokens name s n d m ty k =
     if nat_eq d 15 then and_shifted (two (test_mnemonic name ++ wide) (r n) (r m)) ty k
@@ -138,7 +138,7 @@ abbrev pub barrier_tokens : BarrierRow → List Tok
 barrier_tokens t19.Nop = word (codes "nop" ++ wide) ∷ []
 barrier_tokens (t19.Barrier i) = word (barrier_mnemonic i.name) ∷ constant i.o.value
 
--- T21: the register of VMRS; of FPSCR 15 is the four flags (DDI0553, "VMRS" and "VMSR")
+-- T21: the register of VMRS of FPSCR: 15 is the four flags (DDI0553, "VMRS")
 abbrev pub flags_or : ℕ → Tok
 flags_or t = word (cond (nat_eq t 15) (codes "apsr_nzcv") (register_name t))
 
@@ -151,7 +151,8 @@ system_tokens move.WriteFpscr t = two (codes "vmsr") (word (codes "fpscr")) (r t
 system_tokens move.WriteVpr t = two (codes "vmsr") (word (codes "vpr")) (r t)
 system_tokens move.WriteP0 t = two (codes "vmsr") (word (codes "p0")) (r t)
 
--- T22: a word of a vector register, `qd[x]` (DDI0553, "VMOV (general-purpose register to vector lane)" and "VMOV (vector lane to general-purpose register)")
+-- T22: the word of a vector register that VMOV names, `qd[x]`
+-- (DDI0553, "VMOV (general-purpose register to vector lane)" and "VMOV (vector lane to general-purpose register)")
 abbrev pub lane_of : ℕ → ℕ → List Tok
 lane_of d x = q d ∷ open_bracket ∷ number x ∷ close_bracket ∷ []
 
@@ -214,7 +215,8 @@ row_tokens (T21 i) = system_tokens i.name i.t.value
 row_tokens (T22 i) = lane_tokens i.name i.q.value i.x.value i.t.value
 row_tokens (T23 i) = loop_tokens i
 
--- T23: whether the last operand is a label: of WLS, WLSTP, LE and LETP (DDI0553, "WLS, DLS, WLSTP, DLSTP" and "LE, LETP")
+-- T23: whether the last operand is a label: of WLS, WLSTP, LE and LETP, and not of DLS, DLSTP and LCTP
+-- (DDI0553, "WLS, DLS, WLSTP, DLSTP", "LE, LETP" and "LCTP")
 abbrev pub has_label_loop : LoopRow → Bool
 has_label_loop (t23.Dls i) = false
 has_label_loop (t23.Wls i) = true
@@ -223,7 +225,7 @@ has_label_loop (t23.Wlstp i) = true
 has_label_loop (t23.End i) = true
 has_label_loop t23.Lctp = false
 
--- whether the last operand of a row is a label: T16, and WLS, WLSTP, LE and LETP of T23
+-- whether the last operand of a row is a label: B and BL of T16, and WLS, WLSTP, LE and LETP of T23
 -- (DDI0553, "B", encodings T3 and T4, "BL", "WLS, DLS, WLSTP, DLSTP" and "LE, LETP")
 abbrev pub has_label : WideRow → Bool
 has_label (T16 i) = true

@@ -20,7 +20,7 @@ line text = text ++ line_end ∷ []
 abbrev pub Lines : Type 0
 Lines = List (List ℕ) × List ℕ
 
--- a byte in front of the first line
+-- a byte in front of the first line, ended or not
 abbrev pub onto_line : ℕ → Lines → Lines
 onto_line b ([], rest) = ([], b ∷ rest)
 onto_line b (l ∷ ls, rest) = ((b ∷ l) ∷ ls, rest)

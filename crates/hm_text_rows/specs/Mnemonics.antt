@@ -25,7 +25,7 @@ access_mnemonic access.Ldrh = codes "ldrh"
 access_mnemonic access.Ldrb = codes "ldrb"
 access_mnemonic access.Ldrsh = codes "ldrsh"
 
--- S25 and T16: B under a condition, `beq` to `ble` (DDI0553, "B")
+-- S25 and T16: the mnemonic of B under a condition, BEQ, BNE, BCS, BCC, BMI, BPL, BVS, BVC, BHI, BLS, BGE, BLT, BGT and BLE (DDI0553, "B")
 abbrev pub branch_mnemonic : ℕ → List ℕ
 branch_mnemonic c = codes "b" ++ condition_name c
 

@@ -30,7 +30,7 @@ abbrev pub block_masks : List ℕ
 block_masks = 1 ∷ 2 ∷ 3 ∷ 4 ∷ 5 ∷ 6 ∷ 7 ∷ 8 ∷ 9 ∷ 10 ∷ 11 ∷ 12 ∷ 13 ∷ 14 ∷ 15 ∷ []
 
 -- NAMES THAT ROWS OF ONE HALFWORD AND OF TWO SHARE
--- S2, S3, S10 and T3: ADD and SUB
+-- S2, S3, S10 and T3: ADDS and SUBS, ADD and SUB, and ADDW and SUBW
 -- (DDI0553, "ADD (register)", "SUB (register)", "ADD (immediate)", "SUB (immediate)", "ADD (SP plus immediate)", "SUB (SP minus immediate)" and "ADR")
 abbrev pub sum_names : List SumName
 sum_names = sum_.Add ∷ sum_.Sub ∷ []

@@ -87,7 +87,7 @@ back_in ts =
     else 0
 
 -- LISTS
--- the bit of a register in a list
+-- the bit of a register in a list; 0 where there is no register
 abbrev pub bit_or_none : Option ℕ → ℕ
 bit_or_none (Some n) = 2 ^ n
 bit_or_none None = 0
@@ -102,7 +102,7 @@ token_bit (word w) = bit_in w
 token_bit (number n) = 0
 token_bit (mark c) = 0
 
--- the bits of all registers that are named
+-- the bits of all registers that are named, added up, at most 2^16 - 1
 unfoldable pub bits_of : List Tok → ℕ
 bits_of [] = 0
 bits_of (t ∷ ts) = min (token_bit t + bits_of ts) 0xffff

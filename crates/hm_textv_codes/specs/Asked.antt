@@ -83,7 +83,7 @@ mnemonic_of (vector.V28 i) = interleaved_mnemonic i.f.value i.l.value i.p.value
 
 -- OPERANDS
 -- whether the first word has no point, the sign u and the size z of the elements, what the third operand and the base of an address are, how an
--- offset is used, by the bits P, A and W of DDI0553, and up to five operands
+-- offset is used, by the bits P, A and W, and up to five operands
 abbrev pub given_access : Bool → ℕ → ℕ → Kind → Kind → ℕ → ℕ → ℕ → ℕ → ℕ → ℕ → ℕ → ℕ → Operands
 given_access bare u z kind base p a w b c e g h = record {
   is_bare = bare;
@@ -121,11 +121,12 @@ three_given u z a b c = given false u z kinds.Vector a b c 0
 abbrev pub shift_given : ℕ → ℕ → ℕ → ℕ → ℕ → Operands
 shift_given u z a b k = given false u z kinds.Number a b k 0
 
--- V12: two operands and the number k, which a move does not have (DDI0553, "VSHLL" and "VMOVL")
+-- V12: two operands of VSHLLB, VSHLLT, VMOVLB and VMOVLT, and the number k, which the moves do not have (DDI0553, "VSHLL" and "VMOVL")
 abbrev pub long_given : ℕ → ℕ → ℕ → ℕ → ℕ → Operands
 long_given u z d m k = given false u z (if nat_eq k 0 then kinds.Missing else kinds.Number) d m k 0
 
--- V15: the operands by op and cm: the size of the element, and how the immediate x is shifted in it: 0 brings in zeros, and 1 brings in ones
+-- V15: the operands of VMOV, VMVN, VORR and VBIC by op and cm: the size of the element, and how the immediate x is shifted in it: 0 brings in zeros,
+-- and 1 brings in ones
 -- (DDI0553, "VMOV (immediate) (vector)", "VMVN (immediate)", "VORR (immediate)" and "VBIC (immediate)")
 abbrev pub constant_given : ℕ → ℕ → ℕ → ℕ → Operands
 constant_given op cm d x =
@@ -134,21 +135,22 @@ constant_given op cm d x =
     else if nat_lt cm 14 then given false 0 2 kinds.Word d x 1 (cm % 2 * 8 + 8)
     else two_given 0 (if nat_eq op 0 then 0 else 3) d x
 
--- V16: 1 where the elements that are read are unsigned (DDI0553, "VQMOVN")
+-- V16: 1 where the elements that VQMOVNB or VQMOVNT reads are unsigned; else 0 (DDI0553, "VQMOVN")
 abbrev pub narrowing_sign : NarrowingName → ℕ
 narrowing_sign narrowing.Unsigned = 1
 narrowing_sign name = 0
 
--- V20: 1 where the condition is of unsigned numbers, cs and hi (DDI0553, "VCMP (vector)" and "VPT")
+-- V20: 1 where the condition of VCMP or VPT is of unsigned numbers, cs and hi (DDI0553, "VCMP (vector)" and "VPT")
 abbrev pub compare_sign : ℕ → ℕ
 compare_sign c = get_or (0 ∷ 0 ∷ 1 ∷ 1 ∷ 0 ∷ 0 ∷ 0 ∷ 0 ∷ []) c 0
 
--- V24 to V27: the sign u of a load; a store has none
+-- V24 to V27: the sign u of VLDRB, VLDRH and VLDRW; VSTRB, VSTRH and VSTRW have none
 -- (DDI0553, "VLDRB, VLDRH, VLDRW", "VSTRB, VSTRH, VSTRW", "VLDRB, VLDRH, VLDRW, VLDRD (vector)" and "VSTRB, VSTRH, VSTRW, VSTRD (vector)")
 abbrev pub access_sign : ℕ → ℕ → ℕ
 access_sign l u = cond (nat_eq l 0) 0 u
 
--- V28: the registers from d up, two, or four where f is 1, and the base n behind them (DDI0553, "VLD2", "VLD4", "VST2" and "VST4")
+-- V28: the registers from d up, two of VLD20, VLD21, VST20 and VST21, or four of VLD40, VLD41, VLD42, VLD43, VST40, VST41, VST42 and VST43 where f is 1,
+-- and the base n behind them (DDI0553, "VLD2", "VLD4", "VST2" and "VST4")
 abbrev pub interleaved_given : ℕ → ℕ → ℕ → ℕ → ℕ → Operands
 interleaved_given f z w d n =
     given_access false 0 z (if nat_eq f 0 then kinds.Word else kinds.Vector) kinds.Word 1 1 w d (d + 1) (if nat_eq f 0 then n else d + 2)
@@ -223,7 +225,7 @@ IsCodeOf {A} row s o code = (i : A) → Asks (row i) s o → code ≡ Some (vect
 abbrev pub IsOtherCodeOf : {A : Type 0} → (A → Vector) → List ℕ → Operands → Option ℕ → Type 0
 IsOtherCodeOf {A} row s o code = (i : A) → AsksOther (row i) s o → code ≡ Some (vector_code (row i))
 
--- V15: the number of a mnemonic and operands are those of this row
+-- V15: the number of a mnemonic, VMOV, VMVN, VORR or VBIC, and operands are those of this row
 -- (DDI0553, "VMOV (immediate) (vector)", "VMVN (immediate)", "VORR (immediate)" and "VBIC (immediate)")
 abbrev pub AsksConstant : V15 → ℕ → Operands → Type 0
 AsksConstant i k o = (k ≡ constant_number i.op.value i.cm.value) × (o ≡ operands_of (vector.V15 i))

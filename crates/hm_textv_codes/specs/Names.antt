@@ -95,7 +95,7 @@ offsets_names = offsets.Up ∷ offsets.Down ∷ []
 abbrev pub extreme_names : List ExtremeName
 extreme_names = extreme.Max ∷ extreme.Min ∷ []
 
--- V20 and V21: the masks of a block, and 0, which VCMP and VPNOT have (DDI0553, "VCMP (vector)", "VPT", "VPST" and "VPNOT")
+-- V20 and V21: the masks of a block that VPT and VPST begin, and 0, which VCMP and VPNOT have (DDI0553, "VCMP (vector)", "VPT", "VPST" and "VPNOT")
 abbrev pub masks : List ℕ
 masks = 0 ∷ block_masks
 
@@ -109,7 +109,8 @@ constant_mnemonic k = either (k / 2) (constant_move_mnemonic (k % 2)) (constant_
 abbrev pub constant_in : List ℕ → Option ℕ
 constant_in s = named constant_mnemonic (0 ∷ 1 ∷ 2 ∷ 3 ∷ []) s
 
--- V16: the name and the part of VMOVN, VQMOVUN and VQMOVN, by the mnemonic; VQMOVN of unsigned elements differs in its sign alone
+-- V16: the name and the part, by the mnemonic, of VMOVNB, VMOVNT, VQMOVUNB, VQMOVUNT, VQMOVNB and VQMOVNT; the last two of unsigned elements differ
+-- in the sign alone
 -- (DDI0553, "VMOVN", "VQMOVN" and "VQMOVUN")
 abbrev pub narrowing_in : List ℕ → Option (NarrowingName × ℕ)
 narrowing_in s = named_with_bit narrowing_mnemonic (narrowing.Plain ∷ narrowing.ToUnsigned ∷ narrowing.Signed ∷ []) s
@@ -119,12 +120,14 @@ narrowing_in s = named_with_bit narrowing_mnemonic (narrowing.Plain ∷ narrowin
 abbrev pub access_in : List ℕ → Option (ℕ × ℕ)
 access_in s = named (λ (p : ℕ × ℕ). access_mnemonic p.0 p.1) ((0, 0) ∷ (0, 1) ∷ (0, 2) ∷ (1, 0) ∷ (1, 1) ∷ (1, 2) ∷ []) s
 
--- V28: the mnemonic of part p of two registers where f is 0, else of four: of VST2 and VST4 where l is 0, else of VLD2 and VLD4
+-- V28: the mnemonic of part p of two registers where f is 0, else of four, of a store where l is 0, else of a load: VST20, VST21, VLD20, VLD21,
+-- VST40, VST41, VST42, VST43, VLD40, VLD41, VLD42 and VLD43
 -- (DDI0553, "VLD2", "VLD4", "VST2" and "VST4")
 abbrev pub interleaved_mnemonic : ℕ → ℕ → ℕ → List ℕ
 interleaved_mnemonic f l p = either f (pair_mnemonic l p) (quad_mnemonic l p)
 
--- V28: 1 for four registers, 1 for a load, and the part of VST20, VST21, VLD20, VLD21, VST40 to VST43 and VLD40 to VLD43, by the mnemonic
+-- V28: 1 for four registers, 1 for a load, and the part, by the mnemonic, of VST20, VST21, VLD20, VLD21, VST40, VST41, VST42, VST43, VLD40, VLD41,
+-- VLD42 and VLD43
 -- (DDI0553, "VLD2", "VLD4", "VST2" and "VST4")
 abbrev pub interleaved_in : List ℕ → Option (ℕ × ℕ × ℕ)
 interleaved_in s =

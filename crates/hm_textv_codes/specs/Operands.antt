@@ -10,7 +10,8 @@ use Rattle.hm_textv_codes.specs.declared.operands.Kind.{Kind}
 use Rattle.hm_textv_codes.specs.declared.operands.Kind.TheVariants as kinds
 use Rattle.hm_textv_codes.specs.declared.operands.Operands.{Operands}
 
--- V20: the number of the condition that a word names, 0 to 7 for eq, ne, cs, hi, ge, lt, gt and le; None where it names none (DDI0553, "VCMP (vector)")
+-- V20: the number of the condition of VCMP or VPT that a word names, 0 to 7 for eq, ne, cs, hi, ge, lt, gt and le; None where it names none
+-- (DDI0553, "VCMP (vector)" and "VPT")
 abbrev pub compare_condition_in : List ℕ → Option ℕ
 compare_condition_in w = named compare_condition (0 ∷ 1 ∷ 2 ∷ 3 ∷ 4 ∷ 5 ∷ 6 ∷ 7 ∷ []) w
 

@@ -175,7 +175,7 @@ constant_move_mnemonic op = either op (codes "vmov") (codes "vmvn")
 abbrev pub constant_merge_mnemonic : ℕ → List ℕ
 constant_merge_mnemonic op = either op (codes "vorr") (codes "vbic")
 
--- V16: the mnemonic of each name, VMOVN, VQMOVUN and VQMOVN, with b for the lower part of each wide element, or t for the upper
+-- V16: the mnemonic of each name, VMOVNB, VQMOVUNB and VQMOVNB for the lower part of each wide element, or VMOVNT, VQMOVUNT and VQMOVNT for the upper
 -- (DDI0553, "VMOVN", "VQMOVN" and "VQMOVUN")
 abbrev pub narrowing_mnemonic : NarrowingName → ℕ → List ℕ
 narrowing_mnemonic narrowing.Plain t = cond (nat_eq t 0) (codes "vmovnb") (codes "vmovnt")
@@ -233,7 +233,8 @@ pair_mnemonic l p =
     (get_or (codes "vst20" ∷ codes "vst21" ∷ []) p [])
     (get_or (codes "vld20" ∷ codes "vld21" ∷ []) p [])
 
--- V28: the mnemonic of part p of four registers, VST40 to VST43 where l is 0, or VLD40 to VLD43 (DDI0553, "VLD4" and "VST4")
+-- V28: the mnemonic of part p of four registers, VST40, VST41, VST42 and VST43 where l is 0, or VLD40, VLD41, VLD42 and VLD43
+-- (DDI0553, "VLD4" and "VST4")
 abbrev pub quad_mnemonic : ℕ → ℕ → List ℕ
 quad_mnemonic l p =
     either l
@@ -246,7 +247,7 @@ abbrev pub complex_sum_suffix : ComplexSumName → ℕ → List ℕ
 complex_sum_suffix complex_sum.Cadd z = integer z
 complex_sum_suffix complex_sum.Hcadd z = signed z
 
--- V10: VADD, VSUB and VMUL are of integers, VQDMULH and VQRDMULH of signed ones, and the others of either sign
+-- V10: VADD, VSUB and VMUL are of integers, VQDMULH and VQRDMULH of signed ones, and VHADD, VHSUB, VQADD, VQSUB, VMLA and VMLAS of either sign
 -- (DDI0553, the forms with a scalar of "VADD (vector)", "VSUB (vector)", "VMUL (vector)", "VHADD", "VHSUB", "VQADD", "VQSUB" and
 -- "VQDMULH, VQRDMULH (vector)", and "VMLA (vector by scalar plus vector)" and "VMLAS (vector by vector plus scalar)")
 abbrev pub scalar_suffix : ScalarName → ℕ → ℕ → List ℕ
@@ -257,7 +258,7 @@ scalar_suffix by_scalar.Qdmulh u z = signed z
 scalar_suffix by_scalar.Qrdmulh u z = signed z
 scalar_suffix name u z = by_sign u z
 
--- V11: VQSHLU is of signed integers, VSHL of integers, VSRI and VSLI have no type, and the others are of either sign
+-- V11: VQSHLU is of signed integers, VSHL of integers, VSRI and VSLI have no type, and VSHR, VRSHR and VQSHL are of either sign
 -- (DDI0553, "VSHR", "VRSHR", "VQSHL, VQSHLU", "VSHL", "VSRI" and "VSLI")
 abbrev pub constant_shift_suffix : ConstantShiftName → ℕ → ℕ → List ℕ
 constant_shift_suffix by_constant.Qshlu u z = signed z
@@ -266,24 +267,27 @@ constant_shift_suffix by_constant.Sri u z = element_suffix z
 constant_shift_suffix by_constant.Sli u z = element_suffix z
 constant_shift_suffix name u z = by_sign u z
 
--- V13: VCLZ is of integers, and the others of signed ones (DDI0553, "VCLS", "VCLZ", "VABS (vector)", "VNEG (vector)", "VQABS" and "VQNEG")
+-- V13: VCLZ is of integers, and VCLS, VABS, VNEG, VQABS and VQNEG of signed ones
+-- (DDI0553, "VCLS", "VCLZ", "VABS (vector)", "VNEG (vector)", "VQABS" and "VQNEG")
 abbrev pub one_suffix : OneName → ℕ → List ℕ
 one_suffix one.Clz z = integer z
 one_suffix name z = signed z
 
--- V16: the size of the wide elements, by the bit that is 0 where they have 16 bits, and their type (DDI0553, "VMOVN", "VQMOVN" and "VQMOVUN")
+-- V16: the size of the wide elements of VMOVNB, VMOVNT, VQMOVUNB, VQMOVUNT, VQMOVNB and VQMOVNT, by the bit that is 0 where they have 16 bits,
+-- and their type (DDI0553, "VMOVN", "VQMOVN" and "VQMOVUN")
 abbrev pub narrowing_suffix : NarrowingName → ℕ → List ℕ
 narrowing_suffix narrowing.Plain z = integer (z + 1)
 narrowing_suffix narrowing.ToUnsigned z = signed (z + 1)
 narrowing_suffix narrowing.Signed z = signed (z + 1)
 narrowing_suffix narrowing.Unsigned z = unsigned (z + 1)
 
--- V24 to V27: the size and the sign of elements; a store has no sign
+-- V24 to V27: the size and the sign of the elements of VLDRB, VLDRH and VLDRW, and the size of those of VSTRB, VSTRH and VSTRW, which have no sign
 -- (DDI0553, "VLDRB, VLDRH, VLDRW", "VSTRB, VSTRH, VSTRW", "VLDRB, VLDRH, VLDRW, VLDRD (vector)" and "VSTRB, VSTRH, VSTRW, VSTRD (vector)")
 abbrev pub access_suffix : ℕ → ℕ → ℕ → List ℕ
 access_suffix l u z = either l (element_suffix z) (by_sign u z)
 
--- V20: by the condition, eq and ne are of integers, cs and hi of unsigned numbers, and ge, lt, gt and le of signed ones (DDI0553, "VCMP (vector)" and "VPT")
+-- V20: VCMP and VPT by the condition: eq and ne are of integers, cs and hi of unsigned numbers, and ge, lt, gt and le of signed ones
+-- (DDI0553, "VCMP (vector)" and "VPT")
 abbrev pub compare_suffix : ℕ → ℕ → List ℕ
 compare_suffix c z = get_or (integer z ∷ integer z ∷ unsigned z ∷ unsigned z ∷ signed z ∷ signed z ∷ signed z ∷ signed z ∷ []) c []
 
@@ -291,7 +295,7 @@ compare_suffix c z = get_or (integer z ∷ integer z ∷ unsigned z ∷ unsigned
 abbrev pub compare_condition : ℕ → List ℕ
 compare_condition c = get_or (codes "eq" ∷ codes "ne" ∷ codes "cs" ∷ codes "hi" ∷ codes "ge" ∷ codes "lt" ∷ codes "gt" ∷ codes "le" ∷ []) c []
 
--- V20 and V21: the letters of a block, by its mask: t where an instruction has the sense of the first, e where it has the other
+-- V20 and V21: the letters of a block of VPT or VPST, by its mask: t where an instruction has the sense of the first, e where it has the other
 -- (DDI0553, "VPT" and "VPST")
 abbrev pub block_letters : ℕ → List ℕ
 block_letters mask = get_or
@@ -307,6 +311,7 @@ compare_word mask = cond (nat_eq mask 0) (codes "vcmp") (codes "vpt")
 abbrev pub block_word : ℕ → List ℕ
 block_word mask = cond (nat_eq mask 0) (codes "vpnot") (codes "vpst")
 
--- V20 and V21: the mnemonic by its mask: one of these words and the letters of the block (DDI0553, "VPT" and "VPST")
+-- V20 and V21: the mnemonic of VCMP or VPT, or of VPNOT or VPST, by its mask: one of these words and the letters of the block
+-- (DDI0553, "VCMP (vector)", "VPT", "VPNOT" and "VPST")
 abbrev pub block_mnemonic : (ℕ → List ℕ) → ℕ → List ℕ
 block_mnemonic name mask = name mask ++ block_letters mask

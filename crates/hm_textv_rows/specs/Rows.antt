@@ -63,16 +63,17 @@ abbrev pub one_tokens : OneRow → List Tok
 one_tokens (v13.Elements i) = two (one_mnemonic i.name ++ one_suffix i.name i.z.value) (q i.d.value) (q i.m.value)
 one_tokens (v13.Not i) = two (codes "vmvn") (q i.d.value) (q i.m.value)
 
--- V15: the tokens of an immediate, `#x` (DDI0553, "VMOV (immediate) (vector)", "VMVN (immediate)", "VORR (immediate)" and "VBIC (immediate)")
+-- V15: the tokens of VMOV, VMVN, VORR or VBIC with an immediate, `qd,#x`
+-- (DDI0553, "VMOV (immediate) (vector)", "VMVN (immediate)", "VORR (immediate)" and "VBIC (immediate)")
 abbrev pub unshifted : List ℕ → ℕ → ℕ → List Tok
 unshifted name d x = and_constant (one name (q d)) x
 
--- V15: the tokens of an immediate and how far it is shifted, `#x,lsl #n`
+-- V15: the tokens of VMOV, VMVN, VORR or VBIC with an immediate and how far it is shifted, `qd,#x,lsl #n`
 -- (DDI0553, "VMOV (immediate) (vector)", "VMVN (immediate)", "VORR (immediate)" and "VBIC (immediate)")
 abbrev pub shifted : List ℕ → List ℕ → ℕ → ℕ → ℕ → List Tok
 shifted name kind n d x = and_any_shift (unshifted name d x) kind n
 
--- V15: the tokens by cm: the element, where the immediate stands in it, and by op one of two operations
+-- V15: the tokens of VMOV, VMVN, VORR and VBIC by cm: the element, where the immediate stands in it, and by op one of two operations
 -- (DDI0553, "VMOV (immediate) (vector)", "VMVN (immediate)", "VORR (immediate)" and "VBIC (immediate)")
 abbrev pub constant_forms : ℕ → ℕ → ℕ → List (List Tok)
 constant_forms op d x =
@@ -119,7 +120,7 @@ predicate_tokens (v21.Block i) = word (block_mnemonic block_word i.k.value) ∷ 
 predicate_tokens (v21.Select i) = three (codes "vpsel") (q i.d.value) (q i.n.value) (q i.m.value)
 predicate_tokens (v21.Tail i) = word (codes "vctp" ++ element_suffix i.z.value) ∷ r i.n.value ∷ []
 
--- V22: the tokens of VADDV, VMLADAV, VADDLV and VMLALDAV, with a where the sum goes on from the old value
+-- V22: the tokens of VADDV, VMLADAV, VADDLV and VMLALDAV, and of VADDVA, VMLADAVA, VADDLVA and VMLALDAVA, whose sum goes on from the old value
 -- (DDI0553, "VADDV", "VMLADAV", "VADDLV" and "VMLALDAV")
 abbrev pub sum_tokens : SumRow → List Tok
 sum_tokens (v22.Sum i) = two (sum_mnemonic i.a.value ++ by_sign i.u.value i.z.value) (r (2 * i.l.value)) (q i.m.value)
@@ -132,12 +133,14 @@ sum_tokens (v22.LongDot i) =
     (q i.n.value) (q i.m.value)
 
 -- LOADS AND STORES
--- V26: the scale of offsets, `,uxtw #y` where they are in elements of memory, and nothing where they are in bytes
+-- V26: the scale of the offsets of VLDRB, VLDRH, VLDRW, VSTRB, VSTRH and VSTRW, `,uxtw #y` where they are in elements of memory, and nothing where
+-- they are in bytes
 -- (DDI0553, "VLDRB, VLDRH, VLDRW, VLDRD (vector)" and "VSTRB, VSTRH, VSTRW, VSTRD (vector)")
 abbrev pub scale : ℕ → ℕ → List Tok
 scale o y = cond (nat_eq o 0) [] (comma ∷ word (codes "uxtw") ∷ constant y)
 
--- V26: the address that has a base and offsets in the vector m (DDI0553, "VLDRB, VLDRH, VLDRW, VLDRD (vector)" and "VSTRB, VSTRH, VSTRW, VSTRD (vector)")
+-- V26: the address of VLDRB, VLDRH, VLDRW, VSTRB, VSTRH and VSTRW that has a base and offsets in the vector m
+-- (DDI0553, "VLDRB, VLDRH, VLDRW, VLDRD (vector)" and "VSTRB, VSTRH, VSTRW, VSTRD (vector)")
 abbrev pub at_offsets : Tok → ℕ → ℕ → ℕ → List Tok
 at_offsets base m o y = open_bracket ∷ base ∷ comma ∷ q m ∷ (scale o y ++ close_bracket ∷ [])
 
@@ -146,14 +149,16 @@ at_offsets base m o y = open_bracket ∷ base ∷ comma ∷ q m ∷ (scale o y +
 abbrev pub access : List ℕ → ℕ → List Tok → List Tok
 access name d address = word name ∷ q d ∷ comma ∷ address
 
--- V28: the registers, `{qd,qe}`, and `{qd,qe,qf,qg}` where f is 1 (DDI0553, "VLD2", "VLD4", "VST2" and "VST4")
+-- V28: the registers of VLD20, VLD21, VST20 and VST21, `{qd,qe}`, and of VLD40, VLD41, VLD42, VLD43, VST40, VST41, VST42 and VST43, `{qd,qe,qf,qg}`,
+-- where f is 1 (DDI0553, "VLD2", "VLD4", "VST2" and "VST4")
 abbrev pub registers : ℕ → ℕ → List Tok
 registers f d =
     cond (nat_eq f 0)
     (open_brace ∷ q d ∷ comma ∷ q (d + 1) ∷ close_brace ∷ [])
     (open_brace ∷ q d ∷ comma ∷ q (d + 1) ∷ comma ∷ q (d + 2) ∷ comma ∷ q (d + 3) ∷ close_brace ∷ [])
 
--- V28: the tokens of a part of VLD2, VLD4, VST2 and VST4, with `!` where the base is written back (DDI0553, "VLD2", "VLD4", "VST2" and "VST4")
+-- V28: the tokens of VLD20, VLD21, VLD40, VLD41, VLD42, VLD43, VST20, VST21, VST40, VST41, VST42 and VST43, with `!` where the base is written back
+-- (DDI0553, "VLD2", "VLD4", "VST2" and "VST4")
 abbrev pub interleaved_tokens : List ℕ → ℕ → ℕ → Tok → ℕ → List Tok
 interleaved_tokens name f d base w = word name ∷ (registers f d ++ comma ∷ open_bracket ∷ base ∷ close_bracket ∷ back w)
 

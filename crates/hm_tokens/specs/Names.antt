@@ -13,7 +13,7 @@ register_names =
 abbrev pub vector_names : List (List ℕ)
 vector_names = codes "q0" ∷ codes "q1" ∷ codes "q2" ∷ codes "q3" ∷ codes "q4" ∷ codes "q5" ∷ codes "q6" ∷ codes "q7" ∷ []
 
--- the names of the halves of vector registers, from 0 to 15, as lists of `vpush` and `vpop` have them
+-- the names of the halves of vector registers, from 0 to 15
 abbrev pub double_names : List (List ℕ)
 double_names =
     codes "d0" ∷ codes "d1" ∷ codes "d2" ∷ codes "d3" ∷ codes "d4" ∷ codes "d5" ∷ codes "d6" ∷ codes "d7"
@@ -72,7 +72,7 @@ abbrev pub are_name_bytes : List ℕ → Bool
 are_name_bytes [] = true
 are_name_bytes (c ∷ cs) = (is_letter c || is_digit c) && are_name_bytes cs
 
--- begins with a letter or `_`
+-- begins with a letter or `_`, and goes on with letters, digits and `_`
 abbrev pub is_name : List ℕ → Bool
 is_name [] = false
 is_name (c ∷ cs) = is_letter c && are_name_bytes cs

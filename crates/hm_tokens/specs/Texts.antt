@@ -16,7 +16,7 @@ part_token (parts.Mark m) = mark_token m
 abbrev pub first_word_of : InstrText → List ℕ
 first_word_of t = t.mnemonic.now ++ (t.letters.now ++ t.suffix.now)
 
--- its tokens
+-- the tokens of an instruction's text: its first word, and its operands
 abbrev pub text_tokens : InstrText → List Tok
 text_tokens t = word (first_word_of t) ∷ map part_token t.operands.items
 
