@@ -276,7 +276,7 @@ impl Refusal {
 }
 
 /// Why a command comes to no finish.
-#[derive(Clone, Copy, Debug, PartialEq, Eq)]
+#[derive(Clone, Copy)]
 pub enum Stop {
     Refused(Refusal),
     NoMemory,

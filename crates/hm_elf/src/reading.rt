@@ -41,7 +41,7 @@ fn word(bytes: &[u8], at: usize) -> u32
 }
 
 /// What is read of a program header.
-#[derive(Clone, Copy, Debug, PartialEq, Eq)]
+#[derive(Clone, Copy)]
 pub struct ProgramHeader {
     /// 1 for bytes that are loaded.
     pub kind: u32,

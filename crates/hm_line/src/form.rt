@@ -9,7 +9,7 @@ ghost use Rattle.hm_tokens.specs.Tokens.{tok};
 use hm_tokens::{Mark, Token};
 
 /// What a text is read as.
-#[derive(Clone, Copy, Debug, PartialEq, Eq)]
+#[derive(Clone, Copy)]
 pub enum Form {
     /// An instruction or directive alone.
     Instruction,
@@ -18,14 +18,14 @@ pub enum Form {
 }
 
 /// Whether an operand stands in the brackets of an address.
-#[derive(Clone, Copy, Debug, PartialEq, Eq)]
+#[derive(Clone, Copy)]
 pub enum Depth {
     Outside,
     Inside,
 }
 
 /// What was read last of the operands.
-#[derive(Clone, Copy, Debug, PartialEq, Eq)]
+#[derive(Clone, Copy)]
 pub enum Operands {
     /// A comma or `[`: an operand follows.
     Operand(Depth),
@@ -54,7 +54,7 @@ pub enum Operands {
 }
 
 /// What was read last of a line.
-#[derive(Clone, Copy, Debug, PartialEq, Eq)]
+#[derive(Clone, Copy)]
 pub enum State {
     /// Nothing.
     Start,

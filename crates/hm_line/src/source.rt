@@ -13,7 +13,7 @@ use hm_text_base::span;
 use hm_tokens::{Mark, is_label_name, skip};
 
 /// A line of a source that is of the form.
-#[derive(Clone, Copy, Debug, PartialEq, Eq)]
+#[derive(Clone, Copy)]
 pub struct SourceLine<'a> {
     /// The name of its label, where it has one.
     pub label: Option<&'a [u8]>,

@@ -7,7 +7,7 @@ ghost use Rattle.hm_sched.specs.Schedule.{line_of, repeat, ticks_of};
 use hm_sched::{Line, Schedule};
 
 /// A line of a schedule, and how many of its ticks are done.
-#[derive(Clone, Copy, Debug, PartialEq, Eq)]
+#[derive(Clone, Copy)]
 pub struct Cursor {
     pub line: usize,
     pub used: u32,

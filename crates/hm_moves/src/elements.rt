@@ -21,7 +21,7 @@ use hm_mem::{Access, Mem};
 use hm_regs::put_bits;
 
 /// An element that a beat moves.
-#[derive(Clone, Copy, Debug, Default, PartialEq, Eq)]
+#[derive(Clone, Copy, Default)]
 pub struct Element {
     /// The address of its first byte.
     pub addr: u32,

@@ -5,7 +5,7 @@ ghost use Rattle.std.specs.Prelude.{◌≡◌, ◌≤◌, ◌<◌, ◌+◌, cond
 use hm_lane::Size;
 
 /// Elements that stand one behind another in memory, for a vector register.
-#[derive(Clone, Copy, Debug, PartialEq, Eq)]
+#[derive(Clone, Copy)]
 pub struct Contiguous {
     /// The vector register.
     pub d: u8,
@@ -22,7 +22,7 @@ pub struct Contiguous {
 }
 
 /// Elements at offsets from a base, which stand in a vector register.
-#[derive(Clone, Copy, Debug, PartialEq, Eq)]
+#[derive(Clone, Copy)]
 pub struct Offsets {
     /// The vector register that is filled or stored.
     pub d: u8,
@@ -39,7 +39,7 @@ pub struct Offsets {
 }
 
 /// Words at addresses that stand in a vector register.
-#[derive(Clone, Copy, Debug, PartialEq, Eq)]
+#[derive(Clone, Copy)]
 pub struct Addresses {
     /// The vector register that is filled or stored.
     pub d: u8,
@@ -54,7 +54,7 @@ pub struct Addresses {
 }
 
 /// Elements that go in turn to two or four vector registers.
-#[derive(Clone, Copy, Debug, PartialEq, Eq)]
+#[derive(Clone, Copy)]
 pub struct Interleaved {
     /// The first of the vector registers.
     pub d: u8,
@@ -72,7 +72,7 @@ pub struct Interleaved {
 }
 
 /// Where the elements of a row are found.
-#[derive(Clone, Copy, Debug, PartialEq, Eq)]
+#[derive(Clone, Copy)]
 pub enum Way {
     Contiguous(Contiguous),
     Offsets(Offsets),
@@ -81,7 +81,7 @@ pub enum Way {
 }
 
 /// A row that loads or stores. It is under the predicate, unless it is interleaved (DDI0553, "VLDR", "VSTR", "VLD2", "VLD4", "VST2", "VST4").
-#[derive(Clone, Copy, Debug, PartialEq, Eq)]
+#[derive(Clone, Copy)]
 pub struct Move {
     /// It stores, and else it loads.
     pub store: bool,

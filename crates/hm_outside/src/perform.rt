@@ -21,7 +21,7 @@ use std::fmt;
 const MOST: u32 = 1000;
 
 /// How a test ends.
-#[derive(Clone, Copy, Debug, PartialEq, Eq)]
+#[derive(Clone, Copy)]
 pub enum Ending {
     Done,
     Stopped(Stop),

@@ -17,7 +17,7 @@ ghost use Rattle.hm_sched.specs.Schedule.{Sched, TickLine, ticks_of};
 ghost use Rattle.hm_state.specs.State.{State};
 
 /// What a tick of a plan does.
-#[derive(Clone, Copy, Debug, PartialEq, Eq)]
+#[derive(Clone, Copy)]
 pub enum Greedy {
     /// The whole of an instruction that has no beats.
     Whole,

@@ -13,7 +13,7 @@ pub enum Reason {
 }
 
 /// Why an instruction is not done to its end: it halts, its output has no room, or it stops.
-#[derive(Clone, Copy, Debug, PartialEq, Eq)]
+#[derive(Clone, Copy)]
 pub enum Cause {
     Halt(Reason),
     Full,

@@ -12,7 +12,7 @@ use hm_line::{number_at, word_in_front};
 use hm_tokens::skip;
 
 /// What `.align` fills up to.
-#[derive(Clone, Copy, Debug, PartialEq, Eq)]
+#[derive(Clone, Copy)]
 pub enum Multiple {
     Two,
     Four,
@@ -34,7 +34,7 @@ impl Multiple {
 }
 
 /// What a directive asks for.
-#[derive(Clone, Copy, Debug, PartialEq, Eq)]
+#[derive(Clone, Copy)]
 pub enum Directive<'a> {
     /// That bytes go on at an address.
     Org(u32),

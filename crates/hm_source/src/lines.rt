@@ -12,7 +12,7 @@ use hm_line::{AsmKind, SourceLine, TextErr, read_line};
 use hm_text_base::span;
 
 /// A line of a source that is of the form, and what it says.
-#[derive(Clone, Copy, Debug, PartialEq, Eq)]
+#[derive(Clone, Copy)]
 pub struct Line<'a> {
     pub parts: SourceLine<'a>,
     pub statement: Statement<'a>,

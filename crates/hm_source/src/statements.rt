@@ -9,7 +9,7 @@ use crate::directives::{Directive, read_directive};
 use hm_text::shape;
 
 /// What the text of a line says.
-#[derive(Clone, Copy, Debug, PartialEq, Eq)]
+#[derive(Clone, Copy)]
 pub enum Statement<'a> {
     /// Nothing.
     Nothing,

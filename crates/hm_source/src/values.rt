@@ -11,7 +11,7 @@ use hm_line::{behind_mark, next_token, number_at};
 use hm_tokens::{Mark, Token, is_label_name, skip};
 
 /// The size of the values of a list.
-#[derive(Clone, Copy, Debug, PartialEq, Eq)]
+#[derive(Clone, Copy, PartialEq, Eq)]
 pub enum DatumSize {
     Byte,
     Half,
@@ -44,7 +44,7 @@ impl DatumSize {
 }
 
 /// What stands in a list.
-#[derive(Clone, Copy, Debug, PartialEq, Eq)]
+#[derive(Clone, Copy)]
 pub enum Item<'a> {
     /// A number, and whether `-` stands before it.
     Literal { minus: bool, number: u64 },
@@ -55,7 +55,7 @@ pub enum Item<'a> {
 }
 
 /// The values of a list: their size, how many they are, and the text of the list.
-#[derive(Clone, Copy, Debug, PartialEq, Eq)]
+#[derive(Clone, Copy)]
 pub struct Values<'a> {
     pub size: DatumSize,
     pub count: u32,

@@ -19,7 +19,7 @@ use hm_isa::{Instr, width};
 use hm_tokens::{Token, single_registers};
 
 /// What is the same for each row with a text, wherever it stands and whatever its label names.
-#[derive(Clone, Copy, Debug)]
+#[derive(Clone, Copy)]
 pub struct Shape<'a> {
     /// How many bytes its code has.
     pub width: u32,

@@ -8,7 +8,7 @@ use hm_text_rows::{braced_bits, operand, value_by};
 use hm_tokens::{Token, read_condition, read_register};
 
 /// What an operand is.
-#[derive(Clone, Copy, Debug, PartialEq, Eq)]
+#[derive(Clone, Copy)]
 pub enum Kind {
     /// There is none.
     Missing,

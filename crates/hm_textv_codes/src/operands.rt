@@ -11,7 +11,7 @@ use hm_text_rows::{
 use hm_tokens::{Mark, Token, read_register, read_vector};
 
 /// What an operand is.
-#[derive(Clone, Copy, Debug, PartialEq, Eq)]
+#[derive(Clone, Copy)]
 pub enum Kind {
     /// There is none.
     Missing,

@@ -13,7 +13,7 @@ use arrayvec::{ArrayString, ArrayVec};
 use itoa::Buffer;
 
 /// A word, a number or a mark of an instruction's text.
-#[derive(Clone, Copy, Debug, PartialEq, Eq)]
+#[derive(Clone, Copy)]
 pub enum Part {
     Word(&'static str),
     Number(u32),

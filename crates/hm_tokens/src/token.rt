@@ -7,7 +7,7 @@ ghost use Rattle.hm_text_base.specs.Reading.{ReadsSome};
 use crate::marks::Mark;
 
 /// A word, a number, or a mark. All numbers from 2^32 on are one, since they fit nowhere.
-#[derive(Clone, Copy, Debug, PartialEq, Eq)]
+#[derive(Clone, Copy)]
 pub enum Token<'a> {
     Word(&'a [u8]),
     Number(u64),
@@ -15,7 +15,7 @@ pub enum Token<'a> {
 }
 
 /// The bytes of words, of decimal and hexadecimal numbers, and spaces.
-#[derive(Clone, Copy, Debug, PartialEq, Eq)]
+#[derive(Clone, Copy)]
 pub enum Class {
     Word,
     Decimal,

@@ -11,7 +11,7 @@ use hm_text_base::{binary_digit, decimal, hex2, hex8, separator, text};
 use std::alloc::Global;
 
 /// A word of the registers.
-#[derive(Clone, Copy, Debug, PartialEq, Eq)]
+#[derive(Clone, Copy)]
 enum Word {
     /// A register of r0 to r12.
     Core(usize),

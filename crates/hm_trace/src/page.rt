@@ -85,7 +85,7 @@ fn column(addr: u32) -> u64
 }
 
 /// What stands between the texts of a page.
-#[derive(Clone, Copy, Debug, PartialEq, Eq)]
+#[derive(Clone, Copy)]
 enum Tag {
     /// The beginning of a row of a class.
     Row,

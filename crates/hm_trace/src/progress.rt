@@ -16,7 +16,7 @@ use hm_machine::{Machine, Outcome, Who};
 pub const MOST_SHOWN: usize = 3;
 
 /// An instruction in a tick: the beats of it that are done before the tick and after it.
-#[derive(Clone, Copy, Debug, Default, PartialEq, Eq)]
+#[derive(Clone, Copy, Default)]
 pub struct Progress {
     pub addr: u32,
     pub before: u8,

@@ -15,7 +15,7 @@ use hm_sched::Line;
 use std::alloc::Global;
 
 /// Where a program stands: its next instruction, and the beats that are done of it and of the one behind it.
-#[derive(Clone, Copy, Debug, PartialEq, Eq)]
+#[derive(Clone, Copy)]
 pub struct Stand {
     pub pc: u32,
     pub older: u8,
