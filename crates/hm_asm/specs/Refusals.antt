@@ -14,7 +14,7 @@ abbrev pub IsLineErr : LabelMap → ℕ → List ℕ → ℕ → AsmErr → Type
 IsLineErr m a line number (refusals.Line k c kind) = (k ≡ number) × IsRefusedAs kind m a line c
 IsLineErr m a line number refusals.OutOfMemory = Unit {0}
 
--- of the first pass
+-- what the first pass tells of a refusal
 abbrev pub IsFirstErr : List ℕ → AsmErr → Type 0
 IsFirstErr source (refusals.Line k c kind) = (n : ℕ) × (k ≡ n + 1) × IsRefusedFirst kind source n c
 IsFirstErr source refusals.OutOfMemory = Unit {0}
@@ -24,7 +24,7 @@ abbrev pub IsSaidErr : Naming → ℕ → List ℕ → ℕ → ℕ → Said → 
 IsSaidErr labels a text begin number said (refusals.Line k c kind) = (k ≡ number) × (t : ℕ) × IsSaidRefused kind labels a text said t × (c ≡ shifted begin t)
 IsSaidErr labels a text begin number said refusals.OutOfMemory = Unit {0}
 
--- of the second pass, where the first refused no line
+-- what the second pass tells of a refusal, where the first refused no line
 abbrev pub IsSecondErr : Naming → List (List ℕ) → AsmErr → Type 0
 IsSecondErr labels lines (refusals.Line k c kind) = (n : ℕ) × (k ≡ n + 1) × IsNextRefused kind labels 0 lines n c
 IsSecondErr labels lines refusals.OutOfMemory = Unit {0}

@@ -145,7 +145,7 @@ fn logic_name(high: u32) -> Option<LogicName>
     }
 }
 
-/// `ands` to `mvns rd,rm`
+/// `ands`, `eors`, `lsls`, `lsrs`, `asrs`, `adcs`, `sbcs`, `rors`, `tst`, `rsbs`, `cmp`, `cmn`, `orrs`, `muls`, `bics` or `mvns` of two registers
 fn decode_s5(h: u16) -> Option<S5>
     ensures found { IfSome result (λ r. code_s5 r ≡ h) }
     ensures none { IfNone result ((r : S5) → code_s5 r ≡ h → ⊥) }
@@ -329,7 +329,7 @@ fn access_name(high: u32) -> Option<AccessName>
     }
 }
 
-/// `str` to `ldrsh rt,[rn,rm]`
+/// `str`, `strh`, `strb`, `ldrsb`, `ldr`, `ldrh`, `ldrb` or `ldrsh` with `rt,[rn,rm]`
 fn decode_s15(h: u16) -> Option<S15>
     ensures found { IfSome result (λ r. code_s15 r ≡ h) }
     ensures none { IfNone result ((r : S15) → code_s15 r ≡ h → ⊥) }
@@ -346,7 +346,7 @@ fn decode_s15(h: u16) -> Option<S15>
     })
 }
 
-/// `str` to `ldrh rt,[rn,#i]`
+/// `str`, `ldr`, `strb`, `ldrb`, `strh` or `ldrh` with `rt,[rn,#i]`
 fn decode_s16(h: u16) -> Option<S16>
     ensures found { IfSome result (λ r. code_s16 r ≡ h) }
     ensures none { IfNone result ((r : S16) → code_s16 r ≡ h → ⊥) }

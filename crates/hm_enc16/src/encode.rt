@@ -81,7 +81,8 @@ pub fn base_of_logic(name: LogicName) -> u32
     0x4000 + ((name as u32) << 6)
 }
 
-/// The code of `ands` to `mvns rd,rm`.
+/// The code of `ands`, `eors`, `lsls`, `lsrs`, `asrs`, `adcs`, `sbcs`, `rors`, `tst`, `rsbs`, `cmp`, `cmn`, `orrs`, `muls`, `bics` or `mvns` of two
+/// registers.
 fn encode_s5(r: &S5) -> u16
     ensures { result ≡ code_s5 r.now }
 {
@@ -209,7 +210,7 @@ pub fn base_of_access(name: AccessName) -> u32
     0x5000 + ((name as u32) << 9)
 }
 
-/// The code of `str` to `ldrsh rt,[rn,rm]`.
+/// The code of `str`, `strh`, `strb`, `ldrsb`, `ldr`, `ldrh`, `ldrb` or `ldrsh` with `rt,[rn,rm]`.
 fn encode_s15(r: &S15) -> u16
     ensures { result ≡ code_s15 r.now }
 {
@@ -223,7 +224,7 @@ pub fn base_of_plain(name: PlainName) -> u32
     0x6000 + ((name as u32) << 11)
 }
 
-/// The code of `str` to `ldrh rt,[rn,#i]`.
+/// The code of `str`, `ldr`, `strb`, `ldrb`, `strh` or `ldrh` with `rt,[rn,#i]`.
 fn encode_s16(r: &S16) -> u16
     ensures { result ≡ code_s16 r.now }
 {
@@ -329,7 +330,7 @@ fn encode_s24(r: &S24) -> u16
     (base_of_zero(r.name) + ((i / 32) << 9) + ((i % 32) << 3) + r.n.get()) as u16
 }
 
-/// The code of `beq label` and so on, `b label`.
+/// The code of a branch of one halfword: under a condition, as `beq label`, or `b label`.
 fn encode_s25(r: &S25) -> u16
     ensures { result ≡ code_s25 r.now }
 {

@@ -21,7 +21,7 @@ use hm_isa::{
     WideBranchName, WideConditional, Wls, Wlstp,
 };
 
-/// `beq.w label` and so on
+/// A branch of two halfwords under a condition, as `beq.w label`
 fn decode_wide_conditional(w: u32) -> Option<WideConditional>
     ensures found { IfSome result (λ r. code_wide_conditional r ≡ w) }
     ensures none { IfNone result ((r : WideConditional) → code_wide_conditional r ≡ w → ⊥) }
@@ -255,7 +255,7 @@ pub fn find_branch(w: u32) -> Option<Instr>
     None
 }
 
-/// The code of `beq.w label` and so on.
+/// The code of a branch of two halfwords under a condition, as `beq.w label`.
 fn encode_wide_conditional(r: &WideConditional) -> u32
     ensures { result ≡ code_wide_conditional r.now }
 {

@@ -9,7 +9,8 @@ use Rattle.hm_isa.specs.declared.data.T6.{T6}
 use Rattle.hm_isa.specs.declared.data.T7.{T7}
 use Rattle.hm_isa.specs.DataCodes.{code_t1, code_t2, code_t3, code_t4, code_t5, code_t6, code_t7}
 
--- w is no code of an operation on a constant or a shifted register, nor of ADDW, SUBW, ADR, MOVW, MOVT, SSAT, USAT, SBFX, UBFX, BFI or BFC
+-- T1 to T7: w is no code of an operation on a constant or a shifted register, nor of ADDW, SUBW, ADR, MOVW, MOVT, SSAT, USAT, SBFX, UBFX, BFI or BFC
+-- (DDI0553, "T32 instruction set encoding", the 32-bit codes)
 pub record IsNoData (w : ℕ) : Type 0 where
   pub t1 : (r : T1) → code_t1 r ≡ w → ⊥
   pub t2 : (r : T2) → code_t2 r ≡ w → ⊥

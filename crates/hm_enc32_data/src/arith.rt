@@ -246,7 +246,7 @@ fn decode_long_product(w: u32) -> Option<LongProduct>
     })
 }
 
-/// `mul` to `udiv`
+/// `mul`, `mla`, `mls`, `smull`, `umull`, `smlal`, `umlal`, `sdiv` or `udiv`
 fn decode_t11(w: u32) -> Option<T11>
     ensures found { IfSome result (λ r. code_t11 r ≡ w) }
     ensures none { IfNone result ((r : T11) → code_t11 r ≡ w → ⊥) }
@@ -452,7 +452,8 @@ fn encode_long_product(r: &LongProduct) -> u32
         + r.m.get()
 }
 
-/// The code of `mul` to `udiv`, with the first halfword in bits 31 to 16.
+/// The code of `mul`, `mla`, `mls`, `smull`, `umull`, `smlal`, `umlal`, `sdiv` or `udiv`, with the first halfword
+/// in bits 31 to 16.
 pub fn encode_t11(r: &T11) -> u32
     ensures value { result ≡ code_t11 r.now }
 {

@@ -83,7 +83,7 @@ fn may_be_t1(x: DataName, s: u32, n: u32, d: u32, i: u32, i3: u32, byte: u32) ->
     may_be_constant(i, i3, byte)
 }
 
-/// `and.w rd,rn,#c` and so on
+/// An operation with a constant, as `and.w rd,rn,#c`
 fn decode_t1(w: u32) -> Option<T1>
     ensures found { IfSome result (λ r. code_t1 r ≡ w) }
     ensures none { IfNone result ((r : T1) → code_t1 r ≡ w → ⊥) }
@@ -137,7 +137,7 @@ fn may_be_t2(x: DataName, s: u32, n: u32, d: u32, i3: u32, i2: u32, ty: u32, m: 
     d != 13 || (i3 == 0 && ty == 0)
 }
 
-/// `and.w rd,rn,rm,lsl #k` and so on
+/// An operation with a shifted register, as `and.w rd,rn,rm,lsl #k`
 fn decode_t2(w: u32) -> Option<T2>
     ensures found { IfSome result (λ r. code_t2 r ≡ w) }
     ensures none { IfNone result ((r : T2) → code_t2 r ≡ w → ⊥) }

@@ -25,7 +25,7 @@ pub fn data_operation(name: DataName) -> u32
     }
 }
 
-/// The code of `and.w rd,rn,#c` and so on, with the first halfword in bits 31 to 16.
+/// The code of an operation with a constant, as `and.w rd,rn,#c`, with the first halfword in bits 31 to 16.
 pub fn encode_t1(r: &T1) -> u32
     ensures value { result ≡ code_t1 r.now }
 {
@@ -39,7 +39,7 @@ pub fn encode_t1(r: &T1) -> u32
         + r.i8.get()
 }
 
-/// The code of `and.w rd,rn,rm,lsl #k` and so on, with the first halfword in bits 31 to 16.
+/// The code of an operation with a shifted register, as `and.w rd,rn,rm,lsl #k`, with the first halfword in bits 31 to 16.
 pub fn encode_t2(r: &T2) -> u32
     ensures value { result ≡ code_t2 r.now }
 {

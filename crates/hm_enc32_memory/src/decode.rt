@@ -172,7 +172,7 @@ fn decode_literal(w: u32) -> Option<Literal>
     })
 }
 
-/// `str.w` to `ldrsh.w`
+/// `str.w`, `strh.w`, `strb.w`, `ldr.w`, `ldrh.w`, `ldrb.w`, `ldrsh.w` or `ldrsb.w`
 fn decode_t12(w: u32) -> Option<T12>
     ensures found { IfSome result (λ r. code_t12 r ≡ w) }
     ensures none { IfNone result ((r : T12) → code_t12 r ≡ w → ⊥) }

@@ -61,7 +61,8 @@ fn encode_literal(r: &Literal) -> u32
     base_of_wide_access(r.name) + 0xf_0000 + (r.u.get() << 23) + (r.t.get() << 12) + r.i.get()
 }
 
-/// The code of `str.w` to `ldrsh.w`, with the first halfword in bits 31 to 16.
+/// The code of `str.w`, `strh.w`, `strb.w`, `ldr.w`, `ldrh.w`, `ldrb.w`, `ldrsh.w` or `ldrsb.w`, with the first
+/// halfword in bits 31 to 16.
 pub fn encode_t12(r: &T12) -> u32
     ensures value { result ≡ code_t12 r.now }
 {

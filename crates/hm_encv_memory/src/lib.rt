@@ -52,7 +52,7 @@ fn may_be_contiguous(p: Bit, w: Bit, n: Register) -> bool
     p.get() + w.get() > 0 && n.get() != 15
 }
 
-/// `vldrb.u8` to `vstrw.32` of elements one after another
+/// `vldrb`, `vldrh`, `vldrw`, `vstrb`, `vstrh` or `vstrw` of elements one after another
 fn decode_v24(w: u32) -> Option<V24>
     ensures found { IfSome result (λ r. code_v24 r ≡ w) }
     ensures none { IfNone result ((r : V24) → code_v24 r ≡ w → ⊥) }
@@ -85,7 +85,7 @@ fn decode_v24(w: u32) -> Option<V24>
     })
 }
 
-/// The code of `vldrb.u8` to `vstrw.32` of elements one after another, with the first halfword in bits 31 to 16.
+/// The code of `vldrb`, `vldrh`, `vldrw`, `vstrb`, `vstrh` or `vstrw` of elements one after another, with the first halfword in bits 31 to 16.
 pub fn encode_v24(r: &V24) -> u32
     ensures value { result ≡ code_v24 r.now }
 {
@@ -105,7 +105,7 @@ fn may_be_widening(u: Bit, p: Bit, w: Bit, l: Bit, h: Bit, z: ElementSize) -> bo
     p.get() + w.get() > 0 && h.get() < z.get() && (l.get() == 1 || u.get() == 0)
 }
 
-/// `vldrb.u16` to `vstrh.32` of narrower elements in memory
+/// `vldrb`, `vldrh`, `vstrb` or `vstrh` of narrower elements in memory
 fn decode_v25(w: u32) -> Option<V25>
     ensures found { IfSome result (λ r. code_v25 r ≡ w) }
     ensures none { IfNone result ((r : V25) → code_v25 r ≡ w → ⊥) }
@@ -144,7 +144,7 @@ fn decode_v25(w: u32) -> Option<V25>
     })
 }
 
-/// The code of `vldrb.u16` to `vstrh.32` of narrower elements in memory, with the first halfword in bits 31 to 16.
+/// The code of `vldrb`, `vldrh`, `vstrb` or `vstrh` of narrower elements in memory, with the first halfword in bits 31 to 16.
 pub fn encode_v25(r: &V25) -> u32
     ensures value { result ≡ code_v25 r.now }
 {
@@ -196,7 +196,7 @@ fn may_be_access(u: Bit, l: Bit, d: QRegister, z: ElementSize, y: ElementSize, m
     }
 }
 
-/// `vldrb.u8` to `vstrw.32` at offsets in a vector
+/// `vldrb`, `vldrh`, `vldrw`, `vstrb`, `vstrh` or `vstrw` at offsets in a vector
 fn decode_v26(w: u32) -> Option<V26>
     ensures found { IfSome result (λ r. code_v26 r ≡ w) }
     ensures none { IfNone result ((r : V26) → code_v26 r ≡ w → ⊥) }
@@ -239,7 +239,7 @@ fn decode_v26(w: u32) -> Option<V26>
     })
 }
 
-/// The code of `vldrb.u8` to `vstrw.32` at offsets in a vector, with the first halfword in bits 31 to 16.
+/// The code of `vldrb`, `vldrh`, `vldrw`, `vstrb`, `vstrh` or `vstrw` at offsets in a vector, with the first halfword in bits 31 to 16.
 pub fn encode_v26(r: &V26) -> u32
     ensures value { result ≡ code_v26 r.now }
 {

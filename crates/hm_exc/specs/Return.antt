@@ -17,7 +17,7 @@ unfoldable pub first_from : (ℕ → Option Broken) → ℕ → ℕ → Option B
 first_from f from zero = None
 first_from f from (suc count) = option_or (f from) (first_from f (suc from) count)
 
--- one thing compared
+-- the value of the return compared with the one that its entry gave
 abbrev pub value_rule : ℕ → Activation → Option Broken
 value_rule value x = if value == x.value then None else Some (broken.ExcReturn value)
 

@@ -18,7 +18,8 @@ use hm_kinds::{Shape, Written, active, finish_row, read, touch_row};
 use hm_lane_fns::word_place;
 use hm_regs::Regs;
 
-/// A sum of elements, or of products of elements, into two registers.
+/// A sum of elements, or of products of elements, into two registers, V22, by `vaddlv`, `vaddlva`, `vmlaldav` or `vmlaldava`: DDI0553,
+/// "VADDLV" and "VMLALDAV".
 #[derive(Clone, Copy)]
 pub struct LongSums {
     pub terms: Terms,

@@ -19,7 +19,8 @@ use hm_kinds::{Shape, Written, active, finish_row, read, touch_row};
 use hm_lane_fns::word_place;
 use hm_regs::Regs;
 
-/// A sum of elements, or of products of elements, into a register.
+/// A sum of elements, or of products of elements, into a register, V22, by `vaddv`, `vaddva`, `vmladav` or `vmladava`: DDI0553, "VADDV" and
+/// "VMLADAV".
 #[derive(Clone, Copy)]
 pub struct Sums {
     pub terms: Terms,

@@ -8,7 +8,8 @@ ghost use Rattle.hm_forms_across.specs.Forms.{added, term};
 use hm_lane::{Size, bytes};
 use hm_lane_fns::{extended_lane, lane_product};
 
-/// What of two vectors is added.
+/// What of two vectors is added, V22, by `vaddv`, `vaddva`, `vmladav`, `vmladava`, `vaddlv`, `vaddlva`, `vmlaldav` or `vmlaldava`: DDI0553,
+/// "VADDV", "VMLADAV", "VADDLV" and "VMLALDAV".
 #[derive(Clone, Copy)]
 pub struct Terms {
     /// Whether products are added, or else the elements of the second vector.

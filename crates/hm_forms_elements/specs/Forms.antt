@@ -88,17 +88,20 @@ abbrev pub constant_row : V15 → Row
 constant_row r = words_row false r.d.value (λ b. []) (λ b slice. constant_new r b) None
 
 -- NARROW ELEMENTS
--- V16: whether an instruction saturates: VQMOVN and VQMOVUN do, and VMOVN does not (DDI0553, "VMOVN", "VQMOVN" and "VQMOVUN")
+-- V16: whether an instruction saturates: VQMOVNB, VQMOVNT, VQMOVUNB and VQMOVUNT do, and VMOVNB and VMOVNT do not
+-- (DDI0553, "VMOVN", "VQMOVN" and "VQMOVUN")
 abbrev pub narrowing_saturates : NarrowingName → Bool
 narrowing_saturates narrowing.Plain = false
 narrowing_saturates n = true
 
--- V16: whether the wide elements are unsigned: those of VQMOVN of unsigned elements (DDI0553, "VQMOVN")
+-- V16: whether the wide elements are unsigned: those of VQMOVNB and VQMOVNT of unsigned elements, and of no VMOVNB, VMOVNT, VQMOVUNB or VQMOVUNT
+-- (DDI0553, "VMOVN", "VQMOVN" and "VQMOVUN")
 abbrev pub takes_unsigned : NarrowingName → Bool
 takes_unsigned narrowing.Unsigned = true
 takes_unsigned n = false
 
--- V16: whether the narrow elements are unsigned: those of VQMOVUN and of VQMOVN of unsigned elements (DDI0553, "VQMOVN" and "VQMOVUN")
+-- V16: whether the narrow elements are unsigned: those of VQMOVUNB and VQMOVUNT, and of VQMOVNB and VQMOVNT of unsigned elements, and of no
+-- VMOVNB or VMOVNT (DDI0553, "VMOVN", "VQMOVN" and "VQMOVUN")
 abbrev pub gives_unsigned : NarrowingName → Bool
 gives_unsigned narrowing.Unsigned = true
 gives_unsigned narrowing.ToUnsigned = true
@@ -154,13 +157,14 @@ narrowing_row r = words_row false r.d.value (λ b. word_place r.m.value b ∷ []
     (cond (narrowing_saturates r.name) (Some (λ b. narrowing_mark r)) None)
 
 -- A CARRY FROM WORD TO WORD
--- V8: whether an instruction subtracts: VSBC and VSBCI do (DDI0553, "VSBC")
+-- V8: whether an instruction subtracts: VSBC and VSBCI do, and VADC and VADCI do not (DDI0553, "VADC" and "VSBC")
 abbrev pub subtracts : CarryName → Bool
 subtracts carry.Sbc = true
 subtracts carry.Sbci = true
 subtracts name = false
 
--- V8: whether the first word begins with a carry of its own: that of VADCI and VSBCI does (DDI0553, "VADC" and "VSBC")
+-- V8: whether the first word begins with a carry of its own: that of VADCI and VSBCI does, and that of VADC and VSBC does not
+-- (DDI0553, "VADC" and "VSBC")
 abbrev pub begins : CarryName → Bool
 begins carry.Adci = true
 begins carry.Sbci = true
@@ -356,7 +360,7 @@ abbrev pub in_turn : (Bool → ℕ → ℕ → ℕ) → Bool → List ℕ → Li
 in_turn f even (x ∷ xs) (y ∷ ys) = f even x y ∷ in_turn f (not even) xs ys
 in_turn f even _ _ = []
 
--- V9: whether results are halved: those of VHCADD are (DDI0553, "VHCADD")
+-- V9: whether results are halved: those of VHCADD are, and those of VCADD are not (DDI0553, "VCADD" and "VHCADD")
 abbrev pub halves : ComplexSumName → Bool
 halves complex_sum.Cadd = false
 halves complex_sum.Hcadd = true

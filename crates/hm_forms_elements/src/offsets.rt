@@ -23,7 +23,7 @@ use hm_lane::{Size, per_word};
 use hm_lane_fns::{merge_active, word_place};
 use hm_regs::Regs;
 
-/// Offsets from a register.
+/// Offsets from a register, V19, by `vidup`, `viwdup`, `vddup` or `vdwdup`: DDI0553, "VIDUP, VIWDUP" and "VDDUP, VDWDUP".
 #[derive(Clone, Copy)]
 pub struct Steps {
     pub name: OffsetsName,

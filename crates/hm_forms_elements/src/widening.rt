@@ -19,7 +19,7 @@ use hm_lane::{Size, bytes};
 use hm_lane_fns::{extended_lane, merge_active, word_place};
 use hm_regs::Regs;
 
-/// Elements widened and shifted.
+/// Elements widened and shifted, V12, by `vshllb`, `vshllt`, `vmovlb` or `vmovlt`: DDI0553, "VSHLL" and "VMOVL".
 #[derive(Clone, Copy)]
 pub struct Widening {
     /// Whether elements of 16 bits become 32, or else 8 bits 16.

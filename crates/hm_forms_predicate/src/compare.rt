@@ -18,7 +18,7 @@ use hm_lane::{Size, bytes};
 use hm_lane_fns::{Operand, both, lane_value, nibble, note_operand, operand_word, word_place};
 use hm_regs::Regs;
 
-/// Comparisons of the elements of two operands.
+/// Comparisons of the elements of two operands, V20, by `vcmp` or `vpt`: DDI0553, "VCMP (vector)" and "VPT".
 #[derive(Clone, Copy)]
 pub struct Comparison {
     /// The condition: eq, ne, cs, hi, ge, lt, gt, le.

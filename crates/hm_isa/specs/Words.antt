@@ -20,7 +20,7 @@ lsl_c x n = record { result = x * 2 ^ n % 2 ^ 32; carry = bit_is_set (x * 2 ^ n)
 abbrev pub lsr_c : ℕ → ℕ → Shifted
 lsr_c x n = record { result = x / 2 ^ n; carry = bit_is_set x (n - 1) }
 
--- SignExtend(x, 64), of which a shift by more than 32 gives what one by 32 gives
+-- SignExtend(x, 64): a word with its sign as 64 bits, of which a shift by more than 32 gives what one by 32 gives (DDI0553, "SignExtend")
 abbrev pub sign_extended_64 : ℕ → ℕ
 sign_extended_64 x = if negative x then x + 0xffffffff00000000 else x
 
@@ -51,7 +51,8 @@ shift_by Lsr = lsr_c
 shift_by Asr = asr_c
 shift_by Ror = ror_c
 
--- Shift_C(x, type, n, carry): x itself and the carry that is given where n is 0 (DDI0553, "Shift_C")
+-- Shift_C(x, type, n, carry): x shifted by n as its type says, and the last bit shifted out; where n is 0, x and the carry that is given
+-- (DDI0553, "Shift_C")
 abbrev pub shift_c : ShiftType → ℕ → ℕ → Bool → Shifted
 shift_c type x n carry = if nat_eq n 0 then record { result = x; carry = carry } else shift_by type x n
 
@@ -96,6 +97,7 @@ imm8 i i3 i4 = 128 * i + 16 * i3 + i4
 abbrev pub repeats : ℕ → ℕ
 repeats k = if nat_eq k 0 then 0x00000001 else (if nat_eq k 1 then 0x00010001 else (if nat_eq k 2 then 0x01000100 else 0x01010101))
 
--- T32ExpandImm_C(x, carry), x of twelve bits (DDI0553, "T32ExpandImm_C")
+-- T32ExpandImm_C(x, carry): the word that x, of twelve bits, stands for, and bit 31 of it where a byte is rotated, else the carry that is given
+-- (DDI0553, "T32ExpandImm_C")
 abbrev pub expand_imm_c : ℕ → Bool → Shifted
 expand_imm_c x carry = if nat_lt x 0x400 then record { result = x % 0x100 * repeats (x / 0x100); carry = carry } else ror_c (0x80 + x % 0x80) (x / 0x80)

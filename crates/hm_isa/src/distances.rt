@@ -8,7 +8,7 @@ use crate::narrow::{Always, Conditional};
 use crate::words::sign_extended;
 
 impl Conditional {
-    /// How far a branch of one halfword under a condition goes, which is `i:0` with its sign: DDI0553, "B", encoding T1.
+    /// S25: how far a branch of one halfword under a condition goes, which is `i:0` with its sign: DDI0553, "B", encoding T1.
     pub fn distance(&self) -> u32
         ensures value { result ≡ conditional_distance self.now }
     {
@@ -17,7 +17,7 @@ impl Conditional {
 }
 
 impl Always {
-    /// How far a branch of one halfword under no condition goes, which is `i:0` with its sign: DDI0553, "B", encoding T2.
+    /// S25: how far a branch of one halfword under no condition goes, which is `i:0` with its sign: DDI0553, "B", encoding T2.
     pub fn distance(&self) -> u32
         ensures value { result ≡ always_distance self.now }
     {
@@ -26,7 +26,7 @@ impl Always {
 }
 
 impl WideConditional {
-    /// How far a branch of two halfwords under a condition goes, which is `s:j2:j1:i6:i11:0` with its sign: DDI0553, "B", encoding T3.
+    /// T16: how far a branch of two halfwords under a condition goes, which is `s:j2:j1:i6:i11:0` with its sign: DDI0553, "B", encoding T3.
     pub fn distance(&self) -> u32
         ensures value { result ≡ wide_conditional_distance self.now }
     {
@@ -36,7 +36,7 @@ impl WideConditional {
 }
 
 impl WideAlways {
-    /// How far a branch of two halfwords under no condition goes, which is `s:I1:I2:i10:i11:0` with its sign: DDI0553, "B", encoding T4,
+    /// T16: how far a branch of two halfwords under no condition goes, which is `s:I1:I2:i10:i11:0` with its sign: DDI0553, "B", encoding T4,
     /// and "BL", encoding T1.
     pub fn distance(&self) -> u32
         ensures value { result ≡ wide_always_distance self.now }

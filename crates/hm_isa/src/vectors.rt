@@ -350,7 +350,7 @@ pub struct V11 {
 }
 
 impl V11 {
-    /// The size of the elements, which the highest bit of `x` tells: DDI0553, "VSHR".
+    /// V11: the size of the elements, which the highest bit of `x` tells: DDI0553, "VSHR", "VRSHR", "VQSHL, VQSHLU", "VSHL", "VSRI" and "VSLI".
     pub fn element_size(&self) -> ElementSize
         ensures value { result.value ≡ constant_shift_size self.now.x.value }
     {
@@ -361,7 +361,7 @@ impl V11 {
         }
     }
 
-    /// How many bits the elements have.
+    /// V11: how many bits the elements have: DDI0553, "VSHR", "VRSHR", "VQSHL, VQSHLU", "VSHL", "VSRI" and "VSLI".
     fn bits(&self) -> u32
         ensures value { result ≡ constant_shift_bits self.now.x.value }
         ensures least { result ≤ self.now.x.value }
@@ -371,7 +371,8 @@ impl V11 {
         8 << self.element_size().get()
     }
 
-    /// By how many places it shifts, from 1 to 32 to the right and from 0 to 31 to the left: DDI0553, "VSHR" and "VSHL".
+    /// V11: by how many places it shifts, from 1 to 32 to the right and from 0 to 31 to the left: DDI0553, "VSHR", "VRSHR", "VQSHL, VQSHLU",
+    /// "VSHL", "VSRI" and "VSLI".
     pub fn amount(&self) -> u32
         ensures value { result ≡ constant_shift_amount self.now.name self.now.x.value }
         ensures most { result ≤ 32 }
@@ -582,7 +583,7 @@ pub struct V17 {
 }
 
 impl V17 {
-    /// By how many places it shifts, from 1 to 32: DDI0553, "VSHLC".
+    /// V17: by how many places it shifts, from 1 to 32: DDI0553, "VSHLC".
     pub fn amount(&self) -> u32
         ensures value { result ≡ zero_as_32 self.now.k.value }
         ensures some { 1 ≤ result }
@@ -793,7 +794,8 @@ pub struct LongDot {
     pub m: QRegister,
 }
 
-/// Sums, `vaddv`, `vmladav`, `vaddlv` and `vmlaldav`: DDI0553, "VADDV", "VMLADAV", "VADDLV" and "VMLALDAV".
+/// Sums, `vaddv`, `vaddva`, `vmladav`, `vmladava`, `vaddlv`, `vaddlva`, `vmlaldav` and `vmlaldava`: DDI0553, "VADDV", "VMLADAV", "VADDLV"
+/// and "VMLALDAV".
 #[derive(Clone, Copy)]
 pub enum V22 {
     Sum(Sum),

@@ -58,7 +58,7 @@ pub fn is_by_carry(ty: Below<4>, k: u32) -> bool
     ty.get() == 3 && k == 0
 }
 
-/// A word shifted left by `n`, which is not 0.
+/// LSL_C: a word shifted left by `n`, which is not 0, and the last bit that is shifted out (DDI0553, "LSL_C").
 #[tactic(auto, using(crate::proofs::FarShifts::far_left, crate::proofs::FarShifts::far_left_bit))]
 fn lsl_c(x: u32, n: u32) -> Shifted
     requires { 0 < n }
@@ -77,7 +77,7 @@ fn lsl_c(x: u32, n: u32) -> Shifted
     }
 }
 
-/// A word shifted right by `n`, which is not 0.
+/// LSR_C: a word shifted right by `n`, which is not 0, and the last bit that is shifted out (DDI0553, "LSR_C").
 #[tactic(auto, using(crate::proofs::FarShifts::far_right))]
 fn lsr_c(x: u32, n: u32) -> Shifted
     requires { 0 < n }
@@ -95,7 +95,7 @@ fn lsr_c(x: u32, n: u32) -> Shifted
     }
 }
 
-/// A word as the low half of a double word that has its sign.
+/// SignExtend(x, 64): a word as the low half of a double word that has its sign (DDI0553, "SignExtend").
 pub fn sign_extended_64(x: u32) -> u64
     ensures value { result ≡ sign_extended_64 x }
     ensures below { result < 2 ^ 64 }
@@ -107,7 +107,7 @@ pub fn sign_extended_64(x: u32) -> u64
     }
 }
 
-/// A word with its sign shifted right by `n`, which is not 0.
+/// ASR_C: a word with its sign shifted right by `n`, which is not 0, and the last bit that is shifted out (DDI0553, "ASR_C").
 fn asr_c(x: u32, n: u32) -> Shifted
     requires { 0 < n }
     ensures value { result ≡ asr_c x n }
@@ -130,7 +130,7 @@ pub fn rotated(x: u32, m: u32) -> u32
     ((right + left) % 0x1_0000_0000) as u32
 }
 
-/// A word rotated right by `n`, which is not 0.
+/// ROR_C: a word rotated right by `n`, which is not 0, and bit 31 of the result (DDI0553, "ROR_C").
 fn ror_c(x: u32, n: u32) -> Shifted
     requires { 0 < n }
     ensures value { result ≡ ror_c x n }

@@ -69,7 +69,7 @@ bounded_values t n addr words = if is_placed t n addr && nat_le (length words) n
 abbrev pub share : ElementType → ℕ → ℕ → ℕ → Bool
 share t n a b = nat_lt a (b + bytes t * n) && nat_lt b (a + bytes t * n)
 
--- one more array
+-- what is written, with one more array
 abbrev pub with_written_array : Written → WrittenArray → Written
 with_written_array k a = record k { arrays = k.arrays ++ a ∷ [] }
 

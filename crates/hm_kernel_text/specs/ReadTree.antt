@@ -44,7 +44,7 @@ leaf_step fs s = if is_leaf s.0 then option_and_then stands (closed fs (word s.0
 abbrev pub open_step : List Frame → List ℕ → Option Step
 open_step fs w = option_and_then (λ o. Some (part (first o ∷ fs))) (op_in w)
 
--- one word
+-- what follows one word behind operations that are open; None where it may not stand there
 unfoldable pub step_in : List Frame → List ℕ → Option Step
 step_in fs w = if slice_index w 0 == open_parenthesis then open_step fs (drop 1 w) else leaf_step fs (span close_parenthesis w)
 

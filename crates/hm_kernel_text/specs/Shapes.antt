@@ -39,7 +39,7 @@ open_shape ss w = option_and_then (λ o. Some (Some (First ∷ ss))) (op_in w)
 abbrev pub leaf_shape : List Side → List ℕ × List ℕ → Option (Option (List Side))
 leaf_shape ss s = if is_leaf s.0 then option_and_then stands_side (closed_sides ss s.1) else None
 
--- one word
+-- what is open behind one word; None where it may not stand there
 unfoldable pub shape_in : List Side → List ℕ → Option (Option (List Side))
 shape_in ss w = if opens w then open_shape ss (drop 1 w) else leaf_shape ss (span close_parenthesis w)
 

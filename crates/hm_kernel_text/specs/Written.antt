@@ -68,7 +68,7 @@ kernel_text w = flat_map line (kernel_lines w)
 
 -- ---- WHAT IT HAS TO BE
 
--- another name
+-- an array has another name than this
 abbrev pub HasOtherName : List ℕ → WrittenArray → Type 0
 HasOtherName name a = a.name ≢ name
 

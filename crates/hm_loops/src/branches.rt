@@ -60,7 +60,7 @@ pub fn zero(i: &S24, regs: &Regs) -> Way
     branch_if(taken, 2 * i.i.get(), regs)
 }
 
-/// `beq label` and so on, and `b label`
+/// A branch of one halfword: under a condition, as `beq label`, or `b label`
 pub fn branch(i: &S25, regs: &Regs) -> Way
     ensures way { Ends result regs.now ≡ s25 i.now regs.now }
 {
@@ -81,7 +81,7 @@ fn wide_always(i: &WideAlways, regs: &mut Regs) -> Way
     branch_if(true, i.distance(), regs)
 }
 
-/// `beq.w label` and so on, `b.w` and `bl label`
+/// A branch of two halfwords: under a condition, as `beq.w label`, or `b.w` or `bl label`
 pub fn wide_branch(i: &T16, regs: &mut Regs) -> Way
     ensures way { Ends result regs.new ≡ t16 i.now regs.old }
 {

@@ -123,7 +123,7 @@ fn loop_end(i: &LoopEnd, regs: &mut Regs) -> Result<Way, Fault>
     }
 }
 
-/// `dls` to `lctp`
+/// `dls`, `wls`, `dlstp`, `wlstp`, `le`, `letp` or `lctp`
 pub fn loop_row(i: &T23, regs: &mut Regs) -> Result<Way, Fault>
     ensures value { ended result regs.new ≡ t23 i.now regs.old }
     ensures stopped { OnErr result (regs.new ≡ regs.old) }

@@ -80,7 +80,10 @@ pub enum Way {
     Interleaved(Interleaved),
 }
 
-/// A row that loads or stores. It is under the predicate, unless it is interleaved (DDI0553, "VLDR", "VSTR", "VLD2", "VLD4", "VST2", "VST4").
+/// A row that loads or stores, V24 to V28, `vldrb`, `vldrh`, `vldrw`, `vstrb`, `vstrh`, `vstrw`, `vld20`, `vld21`, `vld40`, `vld41`, `vld42`,
+/// `vld43`, `vst20`, `vst21`, `vst40`, `vst41`, `vst42` or `vst43`. It is under the predicate, unless it is interleaved: DDI0553,
+/// "VLDRB, VLDRH, VLDRW", "VSTRB, VSTRH, VSTRW", "VLDRB, VLDRH, VLDRW, VLDRD (vector)", "VSTRB, VSTRH, VSTRW, VSTRD (vector)", "VLD2",
+/// "VLD4", "VST2" and "VST4".
 #[derive(Clone, Copy)]
 pub struct Move {
     /// It stores, and else it loads.

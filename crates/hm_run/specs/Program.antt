@@ -55,7 +55,7 @@ ready_state v s = unless_refused (refuse v (with_context s)) (with_context s)
 abbrev pub vector_row : Vector → State → Result State WholeStop
 vector_row v s = then (ready_state v s) (λ t. or_fault (vector_whole v t))
 
--- whether a breakpoint with this number asks something of the host: 171 does, and any other halts the program
+-- S18: whether BKPT with this number asks something of the host: 171 does, and any other halts the program (DDI0553, "BKPT")
 abbrev pub asks : ℕ → Bool
 asks k = nat_eq k 171
 

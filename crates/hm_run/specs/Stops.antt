@@ -23,7 +23,7 @@ abbrev pub break_of : Instr → Option ℕ
 break_of (instr.Scalar i) = scalar_break i
 break_of i = None
 
--- what a breakpoint does, by its number, or else what any other instruction does
+-- S18: what BKPT does, by its number, or else what any other instruction does (DDI0553, "BKPT")
 abbrev pub at_break : {A : Type 0} → (ℕ → A) → Option ℕ → A → A
 at_break f (Some k) r = f k
 at_break f None r = r

@@ -1,4 +1,4 @@
-//! The rows T1 and T2: `and` to `rsb` with a constant or a shifted register.
+//! The rows T1 and T2: operations with a constant, as `and.w rd,rn,#c`, or with a shifted register, as `and.w rd,rn,rm,lsl #k`.
 
 ghost use Rattle.std.specs.Prelude.{◌≡◌, ◌<◌};
 ghost use Rattle.hm_thumb.specs.DataRows.{data_row, put_data_sum, put_if, put_logical, t1, t2};
@@ -64,7 +64,7 @@ fn operate(name: DataName, s: u32, d: u32, x: u32, second: Shifted, regs: &mut R
     }
 }
 
-/// `and.w rd,rn,#c` and so on
+/// An operation with a constant, as `and.w rd,rn,#c`
 pub fn with_constant(i: &T1, regs: &mut Regs)
     ensures regs { regs.new ≡ t1 i.now regs.old }
 {
@@ -73,7 +73,7 @@ pub fn with_constant(i: &T1, regs: &mut Regs)
     operate(i.name, i.s.get(), i.d.get(), x, y, regs);
 }
 
-/// `and.w rd,rn,rm,lsl #k` and so on
+/// An operation with a shifted register, as `and.w rd,rn,rm,lsl #k`
 pub fn with_register(i: &T2, regs: &mut Regs)
     ensures regs { regs.new ≡ t2 i.now regs.old }
 {

@@ -117,7 +117,7 @@ fn multiply_long(i: &LongProduct, regs: &mut Regs)
     put_long(l, h, long_result(i.name, old, x, y), regs);
 }
 
-/// `mul` to `udiv`
+/// `mul`, `mla`, `mls`, `smull`, `umull`, `smlal`, `umlal`, `sdiv` or `udiv`
 pub fn multiply(i: &T11, regs: &mut Regs)
     ensures regs { regs.new ≡ t11 i.now regs.old }
 {

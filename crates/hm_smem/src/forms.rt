@@ -20,7 +20,7 @@ pub fn s14(i: &S14, regs: &mut Regs, mem: &mut Mem) -> Result<Way, Stop>
     access_at(AccessName::Ldr, i.t.get(), addr, regs, mem)
 }
 
-/// `str`, `ldr` and their kin with `rt,[rn,rm]`
+/// `str`, `strh`, `strb`, `ldrsb`, `ldr`, `ldrh`, `ldrb` or `ldrsh` with `rt,[rn,rm]`
 pub fn s15(i: &S15, regs: &mut Regs, mem: &mut Mem) -> Result<Way, Stop>
     ensures done { IsDone (s15 i.now regs.old) regs.old regs.new (memory_of mem.old) (memory_of mem.new) result }
 {
@@ -29,7 +29,7 @@ pub fn s15(i: &S15, regs: &mut Regs, mem: &mut Mem) -> Result<Way, Stop>
     access_at(i.name, i.t.get(), base.wrapping_add(index), regs, mem)
 }
 
-/// `str`, `ldr rt,[rn,#4i]` and their kin
+/// `str`, `ldr`, `strb`, `ldrb`, `strh` or `ldrh` with `rt,[rn,#i]`
 pub fn s16(i: &S16, regs: &mut Regs, mem: &mut Mem) -> Result<Way, Stop>
     ensures done { IsDone (s16 i.now regs.old) regs.old regs.new (memory_of mem.old) (memory_of mem.new) result }
 {
@@ -39,7 +39,7 @@ pub fn s16(i: &S16, regs: &mut Regs, mem: &mut Mem) -> Result<Way, Stop>
     access_at(name, i.t.get(), addr, regs, mem)
 }
 
-/// `str`, `ldr rt,[sp,#4i]`
+/// `str` or `ldr rt,[sp,#4i]`
 pub fn s17(i: &S17, regs: &mut Regs, mem: &mut Mem) -> Result<Way, Stop>
     ensures done { IsDone (s17 i.now regs.old) regs.old regs.new (memory_of mem.old) (memory_of mem.new) result }
 {
@@ -65,7 +65,7 @@ fn chosen(first: bool, x: u32, y: u32) -> u32
     if first { x } else { y }
 }
 
-/// `strb.w rt,[rn,#i]` and so on
+/// A load or store of two halfwords at an offset upward, as `strb.w rt,[rn,#i]`
 fn offset(i: &Offset, regs: &mut Regs, mem: &mut Mem) -> Result<Way, Stop>
     ensures done { IsDone (offset i.now regs.old) regs.old regs.new (memory_of mem.old) (memory_of mem.new) result }
 {
@@ -74,7 +74,7 @@ fn offset(i: &Offset, regs: &mut Regs, mem: &mut Mem) -> Result<Way, Stop>
     access_at(i.name, i.t.value, addr, regs, mem)
 }
 
-/// `strb.w rt,[rn,#-i]`, `[rn,#i]!`, `[rn],#i` and so on
+/// A load or store of two halfwords at an offset downward, or with writeback, as `strb.w rt,[rn,#-i]`, `[rn,#i]!` or `[rn],#i`
 fn indexed(i: &Indexed, regs: &mut Regs, mem: &mut Mem) -> Result<Way, Stop>
     ensures done { IsDone (indexed i.now regs.old) regs.old regs.new (memory_of mem.old) (memory_of mem.new) result }
 {
@@ -98,7 +98,7 @@ fn shifted_left(x: u32, n: u32) -> u32
     (wide % 0x1_0000_0000) as u32
 }
 
-/// `strb.w rt,[rn,rm,lsl #i]` and so on
+/// A load or store of two halfwords at an offset in a register, as `strb.w rt,[rn,rm,lsl #i]`
 fn shifted(i: &Shifted, regs: &mut Regs, mem: &mut Mem) -> Result<Way, Stop>
     ensures done { IsDone (shifted i.now regs.old) regs.old regs.new (memory_of mem.old) (memory_of mem.new) result }
 {
@@ -108,7 +108,7 @@ fn shifted(i: &Shifted, regs: &mut Regs, mem: &mut Mem) -> Result<Way, Stop>
     access_at(i.name, i.t.value, addr, regs, mem)
 }
 
-/// `ldrb.w rt,[pc,#i]` and so on
+/// A load of two halfwords at an offset from pc, as `ldrb.w rt,[pc,#i]`
 fn literal(i: &Literal, regs: &mut Regs, mem: &mut Mem) -> Result<Way, Stop>
     ensures done { IsDone (literal i.now regs.old) regs.old regs.new (memory_of mem.old) (memory_of mem.new) result }
 {
@@ -116,7 +116,7 @@ fn literal(i: &Literal, regs: &mut Regs, mem: &mut Mem) -> Result<Way, Stop>
     access_at(i.name, i.t.value, addr, regs, mem)
 }
 
-/// `str.w`, `ldr.w` and their kin
+/// `str.w`, `strh.w`, `strb.w`, `ldr.w`, `ldrh.w`, `ldrb.w`, `ldrsh.w` or `ldrsb.w`
 pub fn t12(i: &T12, regs: &mut Regs, mem: &mut Mem) -> Result<Way, Stop>
     ensures done { IsDone (t12 i.now regs.old) regs.old regs.new (memory_of mem.old) (memory_of mem.new) result }
 {

@@ -62,7 +62,8 @@ fn text_s4(i: &S4) -> InstrText
     and_constant(one(byte_mnemonic(i.name), "", r(i.d.get())), i.i.get())
 }
 
-/// The text of a row S5: `ands` to `mvns rd,rm`.
+/// The text of a row S5: `ands`, `eors`, `lsls`, `lsrs`, `asrs`, `adcs`, `sbcs`, `rors`, `tst`, `rsbs`, `cmp`, `cmn`, `orrs`, `muls`, `bics` or `mvns` of two
+/// registers.
 fn text_s5(i: &S5) -> InstrText
     ensures { text_tokens result ≡ row_tokens (narrow.S5 i.now) }
 {
@@ -135,7 +136,7 @@ fn text_s14(i: &S14) -> InstrText
     marked(one("ldr", "", r(i.t.get())), Mark::Comma)
 }
 
-/// The text of a row S15: `str` to `ldrsh rt,[rn,rm]`.
+/// The text of a row S15: `str`, `strh`, `strb`, `ldrsb`, `ldr`, `ldrh`, `ldrb` or `ldrsh` with `rt,[rn,rm]`.
 fn text_s15(i: &S15) -> InstrText
     ensures { text_tokens result ≡ row_tokens (narrow.S15 i.now) }
 {
@@ -149,7 +150,7 @@ fn plain_offset(i: &S16) -> u32
     i.name.access().size() * i.i.get()
 }
 
-/// The text of a row S16: `str` to `ldrh rt,[rn,#i]`.
+/// The text of a row S16: `str`, `ldr`, `strb`, `ldrb`, `strh` or `ldrh` with `rt,[rn,#i]`.
 fn text_s16(i: &S16) -> InstrText
     ensures { text_tokens result ≡ row_tokens (narrow.S16 i.now) }
 {
@@ -257,7 +258,7 @@ fn text_s24(i: &S24) -> InstrText
     marked(one(zero_mnemonic(i.name), "", r(i.n.get())), Mark::Comma)
 }
 
-/// The text of a row S25: `beq label` and so on, `b label`.
+/// The text of a row S25: a branch under a condition, as `beq label`, or `b label`.
 fn text_s25(i: &S25) -> InstrText
     ensures { text_tokens result ≡ row_tokens (narrow.S25 i.now) }
 {

@@ -190,7 +190,7 @@ third_numbered = given_sized 0 false true
 abbrev pub second_numbered : ℕ → ℕ → ℕ → ℕ → ℕ → Operands
 second_numbered = given_sized 0 true false
 
--- and for both
+-- of no size, with numbers for the second and the third
 abbrev pub both_numbered : ℕ → ℕ → ℕ → ℕ → ℕ → Operands
 both_numbered = given_sized 0 true true
 

@@ -45,7 +45,7 @@ abbrev pub data_names : List DataName
 data_names =
     data_.And ∷ data_.Bic ∷ data_.Orr ∷ data_.Orn ∷ data_.Eor ∷ data_.Add ∷ data_.Adc ∷ data_.Sbc ∷ data_.Sub ∷ data_.Rsb ∷ []
 
--- T2: LSL, LSR, ASR and ROR, by their numbers (DDI0553, "Data-processing (shifted register)")
+-- the numbers of the shifts that a word may name, 0 to 3 for LSL, LSR, ASR and ROR (DDI0553, "DecodeImmShift")
 abbrev pub shift_numbers : List ℕ
 shift_numbers = 0 ∷ 1 ∷ 2 ∷ 3 ∷ []
 

@@ -75,7 +75,8 @@ move_mnemonic data_.Orr s = either s (codes "mov") (codes "movs")
 move_mnemonic data_.Orn s = either s (codes "mvn") (codes "mvns")
 move_mnemonic name s = []
 
--- T2: the mnemonic of LSL, LSR, ASR and ROR, by the number of the shift (DDI0553, "Data-processing (shifted register)")
+-- T2 and T8: the mnemonic of LSL, LSR, ASR and ROR, by the number of the shift, and in T2 and T5 the operand that says how a register is shifted
+-- (DDI0553, "Data-processing (shifted register)", "LSL (register)", "LSR (register)", "ASR (register)", "ROR (register)", "SSAT" and "USAT")
 abbrev pub shift_mnemonic : ℕ → List ℕ
 shift_mnemonic ty = get_or (codes "lsl" ∷ codes "lsr" ∷ codes "asr" ∷ codes "ror" ∷ []) ty []
 

@@ -119,7 +119,7 @@ access_tokens (t12.Indexed i) = word (access_mnemonic i.name ++ wide) ∷ r i.t.
 access_tokens (t12.Shifted i) = word (access_mnemonic i.name ++ wide) ∷ r i.t.value ∷ comma ∷ scaled i.n.value i.m.value i.i.value
 access_tokens (t12.Literal i) = word (access_mnemonic i.name ++ wide) ∷ r i.t.value ∷ comma ∷ inside i.u.value 0 (r 15) i.i.value
 
--- T14: the base of STMIA, LDMIA, STMDB and LDMDB, `rn`, and `!` where it is written back
+-- T14: the beginning of STMIA, LDMIA, STMDB and LDMDB: the first word, and `rn,`, or `rn!,` where the base is written back
 -- (DDI0553, "STM, STMIA, STMEA", "LDM, LDMIA, LDMFD", "STMDB, STMFD" and "LDMDB, LDMEA")
 abbrev pub list_start : List ℕ → ℕ → ℕ → List Tok
 list_start name w n = word name ∷ r n ∷ (back w ++ comma ∷ [])

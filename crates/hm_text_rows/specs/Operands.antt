@@ -10,7 +10,7 @@ use Rattle.hm_tokens.specs.Tokens.{Tok, word, number, mark, comma, digit_byte, i
 abbrev pub branch_letter : ℕ
 branch_letter = 98
 
--- the condition of a branch: what stands behind the `b` of its first word
+-- S25 and T16: the condition of B: what stands behind the `b` of its first word (DDI0553, "B")
 abbrev pub branch_condition_in : List ℕ → Option ℕ
 branch_condition_in [] = None
 branch_condition_in (c ∷ name) = if c == branch_letter then condition_in name else None
@@ -79,7 +79,7 @@ added ts = if is_the_mark marks.Minus (token_behind marks.Hash ts) then 0 else 1
 abbrev pub before : List Tok → ℕ
 before ts = if is_the_mark marks.Comma (token_behind marks.CloseBracket ts) then 0 else 1
 
--- 1 where a comma or `!` stands there
+-- 1 where a comma or `!` stands behind `]`
 abbrev pub back_in : List Tok → ℕ
 back_in ts =
     if is_the_mark marks.Comma (token_behind marks.CloseBracket ts) then 1

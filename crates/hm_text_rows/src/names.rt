@@ -19,7 +19,7 @@ pub fn named<Name: Copy>(names: &[(Name, &str)], word: &[u8]) -> Option<Name>
     None
 }
 
-/// The name of a row S11 or T9 with this mnemonic, SXTH to UXTB; None where it is another (DDI0553, "SXTH" and its kin).
+/// The name of a row S11 or T9 with this mnemonic, SXTH, SXTB, UXTH or UXTB; None where it is another (DDI0553, "SXTH", "SXTB", "UXTH" and "UXTB").
 pub fn extend_name(mnemonic: &[u8]) -> Option<ExtendName>
     ensures value { result ≡ named extend_mnemonic extend_names mnemonic.now }
 {
@@ -32,7 +32,8 @@ pub fn extend_name(mnemonic: &[u8]) -> Option<ExtendName>
     named(names, mnemonic)
 }
 
-/// The name of a row S15 or T12 with this mnemonic, STR to LDRSH; None where it is another (DDI0553, "STR (immediate)" and its kin).
+/// The name of a row S15 or T12 with this mnemonic, STR, STRH, STRB, LDRSB, LDR, LDRH, LDRB or LDRSH; None where it is another
+/// (DDI0553, the immediate and register form of each, and the literal form of each load, as "LDR (immediate)", "LDR (register)" and "LDR (literal)").
 pub fn access_name(mnemonic: &[u8]) -> Option<AccessName>
     ensures value { result ≡ named access_mnemonic access_names mnemonic.now }
 {

@@ -144,7 +144,7 @@ narrowing_sign name = 0
 abbrev pub compare_sign : ℕ → ℕ
 compare_sign c = get_or (0 ∷ 0 ∷ 1 ∷ 1 ∷ 0 ∷ 0 ∷ 0 ∷ 0 ∷ []) c 0
 
--- V24 to V27: the sign u of VLDRB, VLDRH and VLDRW; VSTRB, VSTRH and VSTRW have none
+-- V24 and V27: the sign u of VLDRB, VLDRH and VLDRW; VSTRB, VSTRH and VSTRW have none
 -- (DDI0553, "VLDRB, VLDRH, VLDRW", "VSTRB, VSTRH, VSTRW", "VLDRB, VLDRH, VLDRW, VLDRD (vector)" and "VSTRB, VSTRH, VSTRW, VSTRD (vector)")
 abbrev pub access_sign : ℕ → ℕ → ℕ
 access_sign l u = cond (nat_eq l 0) 0 u

@@ -52,7 +52,7 @@ unsigned z = codes ".u" ++ element_bits z
 abbrev pub by_sign : ℕ → ℕ → List ℕ
 by_sign u z = cond (nat_eq u 0) (signed z) (unsigned z)
 
--- the number of an element size
+-- V18 and V22: the number of the size of the elements of VDUP, and of VMLADAV and VMLADAVA, 0, 1 and 2 (DDI0553, "VDUP" and "VMLADAV")
 abbrev pub size_number : Element → ℕ
 size_number element.Bytes = 0
 size_number element.Halves = 1

@@ -44,7 +44,7 @@ dlstp i r = goes (put_size i.z.value (put 14 (reg i.n.value r) r))
 abbrev pub wlstp : Wlstp → Regs → Does
 wlstp i r = enter (reg i.n.value r) i.v.value (put_size i.z.value) r
 
--- T23: where no more than a step is left, LE and LETP fall through and leave lr; else lr is lowered, and they branch backward (DDI0553, "LE, LETP")
+-- T23: where no more than a step is left, LE with lr and LETP fall through and leave lr; else lr is lowered, and they branch back (DDI0553, "LE, LETP")
 abbrev pub again : ℕ → ℕ → (Regs → Regs) → Regs → Does
 again step v out r = let left = reg 14 r in cond (nat_le left step) (goes (out r)) (back v (put 14 (left - step) r))
 
