@@ -1,4 +1,5 @@
-//! Command lines on a host in memory, and calls on hosts, compared with what files say that they come to; and the shipped examples and the soak.
+//! The cases of all files: of formats and instructions, worked runs, what another implementation gives, command lines on a host in memory and calls on
+//! hosts, compared with what the files say that they come to; and the shipped examples and the soak.
 #![tactic(auto)]
 
 mod content;
@@ -12,7 +13,10 @@ mod trial;
 
 use anyhow::{Context, Result};
 use examples::write_word;
+use hm_formats::{write_cases, write_instructions};
 use hm_host::OsHost;
+use hm_outside::write_vectors;
+use hm_worked::write_answers;
 use session::{Session, Taken};
 use std::io::{BufWriter, Write};
 use std::{env, fs, io};
@@ -60,15 +64,28 @@ fn write_file<W: Write>(out: &mut W, session: &mut Session, name: &str, text: &s
     Ok(())
 }
 
+/// Takes a file, by the folder that it stands in.
+fn write_named<W: Write>(out: &mut W, rt: &HostRuntime, name: &str) -> Result<()> {
+    let alloc = rt.alloc();
+    let text = fs::read_to_string(rt, name)?;
+    match name.split_once('/') {
+        Some(("formats", _)) => write_cases(out, alloc, name, &text),
+        Some(("instructions", _)) => write_instructions(out, alloc, name, &text),
+        Some(("worked", _)) => write_answers(out, alloc, name, &text),
+        Some(("outside", _)) => write_vectors(out, alloc, name, &text),
+        _ => {
+            let mut session = Session::new(alloc, OsHost::new(rt.clone()?));
+            write_file(out, &mut session, name, &text)
+        }
+    }
+}
+
 /// Takes the words: one that ends in `.txt` names a file, any other an example.
 fn main(rt: HostRuntime) -> Result<()> {
-    let alloc = rt.alloc();
-    let mut out = BufWriter::new(alloc, io::writer(&rt))?;
+    let mut out = BufWriter::new(rt.alloc(), io::writer(&rt))?;
     for word in env::args(&rt)?.skip(1) {
         if word.ends_with(".txt") {
-            let text = fs::read_to_string(&rt, &word)?;
-            let mut session = Session::new(alloc, OsHost::new(rt.clone()?));
-            write_file(&mut out, &mut session, &word, &text)?;
+            write_named(&mut out, &rt, &word)?;
         } else {
             write_word(&mut out, &rt, &word)?;
         }

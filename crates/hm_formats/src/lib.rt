@@ -18,10 +18,9 @@ mod words;
 use answer::answer;
 use anyhow::{Context, Result, ensure};
 use case::Case;
-use setting::write_instructions;
+pub use setting::write_instructions;
 use std::alloc::Global;
-use std::io::{BufWriter, Write};
-use std::{env, fs, io};
+use std::io::Write;
 
 /// How many cases a file has, and how many of them come out otherwise than told.
 #[derive(Clone, Copy)]
@@ -70,7 +69,7 @@ fn take_line<W: Write>(
 }
 
 /// Tries the cases of a file, and writes what differs and how many cases there are.
-fn try_file<W: Write>(out: &mut W, alloc: Global, name: &str, text: &str) -> Result<()> {
+pub fn write_cases<W: Write>(out: &mut W, alloc: Global, name: &str, text: &str) -> Result<()> {
     let mut base = Vec::new(alloc);
     let mut counts = Counts {
         cases: 0,
@@ -86,21 +85,5 @@ fn try_file<W: Write>(out: &mut W, alloc: Global, name: &str, text: &str) -> Res
     }
     let Counts { cases, differ } = counts;
     writeln!(out, "{cases} cases, {differ} differ")?;
-    Ok(())
-}
-
-/// Tries the cases of the files that are named, which are of instructions where they stand in that folder.
-fn main(rt: HostRuntime) -> Result<()> {
-    let alloc = rt.alloc();
-    let mut out = BufWriter::new(alloc, io::writer(&rt))?;
-    for name in env::args(&rt)?.skip(1) {
-        let text = fs::read_to_string(&rt, &name)?;
-        if name.starts_with("instructions/") {
-            write_instructions(&mut out, alloc, &name, &text)?;
-        } else {
-            try_file(&mut out, alloc, &name, &text)?;
-        }
-    }
-    out.flush()?;
     Ok(())
 }

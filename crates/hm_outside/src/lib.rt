@@ -14,8 +14,7 @@ use contents::blank_flash;
 use outcome::differences;
 use register::Register;
 use std::alloc::Global;
-use std::io::{BufWriter, Write};
-use std::{env, fs, io};
+use std::io::{self, Write};
 
 /// What differs in each test, in their order.
 fn outcomes(alloc: Global, cases: &[Case]) -> Result<Vec<Vec<String>>> {
@@ -61,16 +60,10 @@ fn write_all<W: Write>(
     writeln!(out, "{name}: {count} vectors, {differ} differ")
 }
 
-/// Compares the tests of the files that are named.
-fn main(rt: HostRuntime) -> Result<()> {
-    let alloc = rt.alloc();
-    let mut out = BufWriter::new(alloc, io::writer(&rt))?;
-    for name in env::args(&rt)?.skip(1) {
-        let text = fs::read_to_string(&rt, &name)?;
-        let cases = read_cases(alloc, &text).context(format_args!("{name}"))?;
-        let outcomes = outcomes(alloc, &cases)?;
-        write_all(&mut out, &name, &cases, &outcomes)?;
-    }
-    out.flush()?;
+/// Compares the tests of a file. Writes what differs, and how many tests there are and differ.
+pub fn write_vectors<W: Write>(out: &mut W, alloc: Global, name: &str, text: &str) -> Result<()> {
+    let cases = read_cases(alloc, text).context(format_args!("{name}"))?;
+    let outcomes = outcomes(alloc, &cases)?;
+    write_all(out, name, &cases, &outcomes)?;
     Ok(())
 }

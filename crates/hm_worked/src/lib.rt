@@ -11,8 +11,7 @@ mod words;
 use anyhow::{Context, Result};
 use bench::Bench;
 use std::alloc::Global;
-use std::io::{BufWriter, Write};
-use std::{env, fs, io};
+use std::io::Write;
 
 /// What a file comes to.
 #[derive(Clone, Copy)]
@@ -98,22 +97,16 @@ fn try_file<W: Write>(out: &mut W, alloc: Global, name: &str, text: &str) -> Res
     Ok(tally)
 }
 
-/// Does what the files say that are named.
-fn main(rt: HostRuntime) -> Result<()> {
-    let alloc = rt.alloc();
-    let mut out = BufWriter::new(alloc, io::writer(&rt))?;
-    for name in env::args(&rt)?.skip(1) {
-        let text = fs::read_to_string(&rt, &name)?;
-        let Tally {
-            runs,
-            answers,
-            differ,
-        } = try_file(&mut out, alloc, &name, &text)?;
-        writeln!(
-            out,
-            "{name}: {runs} runs, {answers} answers, {differ} differ"
-        )?;
-    }
-    out.flush()?;
+/// Does what the lines of a file say. Writes where an answer is another, and how many runs and answers there are.
+pub fn write_answers<W: Write>(out: &mut W, alloc: Global, name: &str, text: &str) -> Result<()> {
+    let Tally {
+        runs,
+        answers,
+        differ,
+    } = try_file(out, alloc, name, text)?;
+    writeln!(
+        out,
+        "{name}: {runs} runs, {answers} answers, {differ} differ"
+    )?;
     Ok(())
 }
