@@ -12,13 +12,16 @@ use std::test::Fail;
 
 #[test]
 fn takes_words_apart(rt: HostRuntime) {
-    assert_eq!(rt; bits(0x1234_5678, 15, 8), 0x56);
-    assert_eq!(rt; bits(0x1234_5678, 31, 0), 0x1234_5678);
-    assert_eq!(rt; sign(0xff, 8), -1);
-    assert_eq!(rt; sign(0x80, 8), -128);
-    assert_eq!(rt; sign(0x17f, 8), 127);
-    assert_eq!(rt; sign(0x8000_0000, 32), -0x8000_0000);
-    assert_eq!(rt; sign(1, 1), -1);
+    let fields = [bits(0x1234_5678, 15, 8), bits(0x1234_5678, 31, 0)];
+    assert_eq!(rt; fields, [0x56, 0x1234_5678]);
+    let signed = [
+        sign(0xff, 8),
+        sign(0x80, 8),
+        sign(0x17f, 8),
+        sign(0x8000_0000, 32),
+        sign(1, 1),
+    ];
+    assert_eq!(rt; signed, [-1, -128, 127, -0x8000_0000, -1]);
 }
 
 #[test]
@@ -31,11 +34,21 @@ fn keeps_places_in_order(rt: HostRuntime) {
     note(&mut places, Place::R(0));
     note(&mut places, Place::P0(2));
     assert_eq!(rt; places.len(), 5);
-    assert_eq!(rt; places.at(0), Place::R(0));
-    assert_eq!(rt; places.at(1), Place::R(14));
-    assert_eq!(rt; places.at(2), Place::QWord(22));
-    assert_eq!(rt; places.at(3), Place::P0(2));
-    assert_eq!(rt; places.at(4), Place::Mask01);
+    let noted = [
+        places.at(0),
+        places.at(1),
+        places.at(2),
+        places.at(3),
+        places.at(4),
+    ];
+    let in_order = [
+        Place::R(0),
+        Place::R(14),
+        Place::QWord(22),
+        Place::P0(2),
+        Place::Mask01,
+    ];
+    assert_eq!(rt; noted, in_order);
     assert!(rt; Place::Sticky.is(Place::Sticky));
     assert_eq!(rt; Place::Sticky.rank(), 55);
 }
@@ -50,17 +63,20 @@ fn puts_places_together(rt: HostRuntime) {
     note(&mut writes, Place::Sticky);
     note(&mut writes, Place::P0(3));
     note(&mut writes, Place::QWord(0));
-    assert!(rt; reads.has(Place::R(7)));
-    assert!(rt; !reads.has(Place::R(6)));
-    assert_eq!(rt; reads.common(&writes), Some(Place::P0(3)));
+    assert_eq!(rt;
+        [reads.has(Place::R(7)), reads.has(Place::R(6))],
+        [true, false]
+    );
     let fewer = writes.without(Place::P0(3));
-    assert_eq!(rt; fewer.len(), 2);
-    assert_eq!(rt; reads.common(&fewer), Some(Place::Sticky));
-    assert_eq!(rt; reads.common(&fewer.without(Place::Sticky)), None);
+    let common = [
+        reads.common(&writes),
+        reads.common(&fewer),
+        reads.common(&fewer.without(Place::Sticky)),
+    ];
+    assert_eq!(rt; common, [Some(Place::P0(3)), Some(Place::Sticky), None]);
     let all = reads.join(&writes);
-    assert_eq!(rt; all.len(), 4);
-    assert_eq!(rt; all.at(1), Place::QWord(0));
-    assert_eq!(rt; all.at(3), Place::Sticky);
+    assert_eq!(rt; [fewer.len(), all.len()], [2, 4]);
+    assert_eq!(rt; [all.at(1), all.at(3)], [Place::QWord(0), Place::Sticky]);
 }
 
 #[test]
@@ -70,25 +86,19 @@ fn puts_segments_in_order(rt: HostRuntime) -> Result<(), Fail> {
     image.add(0x2000_0000, vec![in alloc; 7]?)?;
     image.add(0x100, vec![in alloc; 1, 2, 3]?)?;
     image.add(0x103, vec![in alloc; 4]?)?;
-    assert_eq!(rt;
+    let refused = [
         image.add(0xff, vec![in alloc; 0, 0]?),
-        Err(ImageErr::Segment { index: 3 }),
-        "overlaps"
-    );
-    assert_eq!(rt;
         image.add(0xf_ffff, vec![in alloc; 0, 0]?),
-        Err(ImageErr::Segment { index: 3 }),
-        "leaves flash"
-    );
-    assert_eq!(rt;
         image.add(0x10, Vec::new(alloc)),
-        Err(ImageErr::Segment { index: 3 }),
-        "has no byte"
+    ];
+    assert_eq!(rt;
+        refused,
+        [Err(ImageErr::Segment { index: 3 }); 3],
+        "one overlaps, one leaves flash, and one has no byte"
     );
     assert_eq!(rt; image.len(), 3);
-    assert_eq!(rt; image.segment(0).0, 0x100);
+    assert_eq!(rt; [image.segment(0).0, image.segment(1).0], [0x100, 0x103]);
     assert_eq!(rt; image.segment(0).1, [1, 2, 3].as_slice());
-    assert_eq!(rt; image.segment(1).0, 0x103);
     assert_eq!(rt; image.segment(2).1, [7].as_slice());
     Ok(())
 }
@@ -96,23 +106,29 @@ fn puts_segments_in_order(rt: HostRuntime) -> Result<(), Fail> {
 #[test]
 fn keeps_what_fits(rt: HostRuntime) {
     let mut regs = Regs::start(0x2001_0000, 8);
-    assert_eq!(rt; regs.get(Place::R(13)), 0x2001_0000);
-    assert_eq!(rt; regs.get(Place::R(14)), 0xffff_ffff);
-    assert_eq!(rt; regs.get(Place::R(0)), 0);
-    assert_eq!(rt; regs.get(Place::Ltp), 4);
+    let first = [
+        regs.get(Place::R(13)),
+        regs.get(Place::R(14)),
+        regs.get(Place::R(0)),
+        regs.get(Place::Ltp),
+    ];
+    assert_eq!(rt; first, [0x2001_0000, 0xffff_ffff, 0, 4]);
     regs.set(Place::R(13), 0x2000_0007);
-    assert_eq!(rt; regs.sp, 0x2000_0004);
     regs.set(Place::R(12), 7);
-    assert_eq!(rt; regs.r[12], 7);
     regs.set(Place::QWord(31), 9);
-    assert_eq!(rt; regs.get(Place::QWord(31)), 9);
     regs.set(Place::P0(2), 0x1f);
     regs.set(Place::Mask23, 8);
-    assert_eq!(rt; regs.vpr, 0x0080_0f00);
     regs.set(Place::Carry, 0xa);
     regs.set(Place::Sticky, 1);
-    assert_eq!(rt; regs.fpscr, 0xa804_0000);
-    assert_eq!(rt; regs.pc, 8);
+    let last = [
+        regs.sp,
+        regs.r[12],
+        regs.get(Place::QWord(31)),
+        regs.vpr,
+        regs.fpscr,
+        regs.pc,
+    ];
+    assert_eq!(rt; last, [0x2000_0004, 7, 9, 0x0080_0f00, 0xa804_0000, 8]);
 }
 
 #[test]
@@ -129,21 +145,25 @@ fn holds_an_image(rt: HostRuntime) -> Result<(), Fail> {
         0x2000_f000,
         0x2000_e000,
     )?;
-    assert_eq!(rt; mem.byte(1), Some(0x20));
-    assert_eq!(rt; mem.byte(3), Some(0xff));
-    assert_eq!(rt; mem.byte(0x000f_ffff), Some(0xff));
-    assert_eq!(rt; mem.byte(0x0010_0000), None);
-    assert_eq!(rt; mem.byte(0x1fff_ffff), None);
-    assert_eq!(rt; mem.byte(0x2000_0000), Some(0));
-    assert_eq!(rt; mem.byte(0x2000_0011), Some(0x88));
-    assert_eq!(rt; mem.byte(0x2003_ffff), Some(0));
-    assert_eq!(rt; mem.byte(0x2004_0000), None);
-    assert_eq!(rt; mem.half(0), Some(0x2005));
-    assert_eq!(rt; mem.half(2), Some(0xffc0));
-    assert_eq!(rt; mem.half(1), None, "an odd address");
-    assert_eq!(rt; mem.half(0x000f_fffe), Some(0xffff));
-    assert_eq!(rt; mem.half(0x0010_0000), None);
-    assert_eq!(rt; mem.half(0x2000_0010), None, "no flash");
+    let flash = [
+        mem.byte(1),
+        mem.byte(3),
+        mem.byte(0x000f_ffff),
+        mem.byte(0x0010_0000),
+    ];
+    assert_eq!(rt; flash, [Some(0x20), Some(0xff), Some(0xff), None]);
+    let sram = [
+        mem.byte(0x1fff_ffff),
+        mem.byte(0x2000_0000),
+        mem.byte(0x2000_0011),
+        mem.byte(0x2003_ffff),
+        mem.byte(0x2004_0000),
+    ];
+    assert_eq!(rt; sram, [None, Some(0), Some(0x88), Some(0), None]);
+    let halves = [mem.half(0), mem.half(2), mem.half(0x000f_fffe)];
+    assert_eq!(rt; halves, [Some(0x2005), Some(0xffc0), Some(0xffff)]);
+    let no_halves = [mem.half(1), mem.half(0x0010_0000), mem.half(0x2000_0010)];
+    assert_eq!(rt; no_halves, [None; 3], "an odd address, and no flash");
     assert!(rt; !mem.tainted(0x2000_0010));
     assert_eq!(rt; mem.actor(), Actor::Thread);
     assert_eq!(rt;
@@ -175,23 +195,23 @@ fn keeps_interrupts_by_words(rt: HostRuntime) -> Result<(), Fail> {
         0x2000_f000,
         0x2000_f000,
     )?;
-    assert_eq!(rt;
+    let stored = [
         mem.store(0xe000_e21c, 4, 0xffff_ffff, Access::Scalar),
-        Ok(())
-    );
+        mem.store(0xe000_e104, 4, 0x8000_0001, Access::Scalar),
+        mem.store(0xe000_e184, 4, 1, Access::Scalar),
+        mem.store(0xe000_e4ef, 1, 0xff, Access::Scalar),
+    ];
+    assert_eq!(rt; stored, [Ok(()); 4]);
     assert_eq!(rt;
         mem.dev().pending,
         [0, 0, 0, 0, 0, 0, 0, 0xffff],
         "240 to 255 are no interrupts"
     );
-    assert_eq!(rt;
-        mem.store(0xe000_e104, 4, 0x8000_0001, Access::Scalar),
-        Ok(())
-    );
-    assert_eq!(rt; mem.store(0xe000_e184, 4, 1, Access::Scalar), Ok(()));
-    assert_eq!(rt; mem.load(0xe000_e104, 4, Access::Scalar), Ok(0x8000_0000));
-    assert_eq!(rt; mem.store(0xe000_e4ef, 1, 0xff, Access::Scalar), Ok(()));
-    assert_eq!(rt; mem.load(0xe000_e4ec, 4, Access::Scalar), Ok(0xe000_0000));
+    let loaded = [
+        mem.load(0xe000_e104, 4, Access::Scalar),
+        mem.load(0xe000_e4ec, 4, Access::Scalar),
+    ];
+    assert_eq!(rt; loaded, [Ok(0x8000_0000), Ok(0xe000_0000)]);
     assert!(rt; mem.load(0xe000_e4f0, 4, Access::Scalar).is_err());
     Ok(())
 }
@@ -217,17 +237,17 @@ fn three() -> Dev {
 #[test]
 fn candidate_order(rt: HostRuntime) {
     let mut d = three();
-    assert_eq!(rt; candidate(&d, 256), None);
+    let none = candidate(&d, 256);
     arrive(&mut d, 1);
     arrive(&mut d, 0);
-    assert_eq!(rt; candidate(&d, 256), Some(16));
+    let first = candidate(&d, 256);
     accept(&mut d, 16);
     arrive(&mut d, 2);
-    assert_eq!(rt; candidate(&d, 128), Some(18));
+    let above = candidate(&d, 128);
     accept(&mut d, 18);
-    assert_eq!(rt; candidate(&d, 128), None);
-    assert_eq!(rt; candidate(&d, 256), Some(17));
-    assert_eq!(rt; candidate(&d, 0), None);
+    assert_eq!(rt; [none, first, above], [None, Some(16), Some(18)]);
+    let last = [candidate(&d, 128), candidate(&d, 256), candidate(&d, 0)];
+    assert_eq!(rt; last, [None, Some(17), None]);
 }
 
 #[test]
@@ -236,17 +256,17 @@ fn ties_and_what_is_not_enabled(rt: HostRuntime) {
     d.tick_pending = true;
     arrive_all(&mut d, &[0x8000_0003, 0, 0, 0, 0, 0, 0, 0]);
     assert_eq!(rt; d.pending, [0x8000_0003, 0, 0, 0, 0, 0, 0, 0]);
-    assert_eq!(rt; candidate(&d, 256), Some(15));
+    let first = candidate(&d, 256);
     accept(&mut d, 15);
-    assert_eq!(rt; candidate(&d, 256), Some(16));
+    let second = candidate(&d, 256);
     accept(&mut d, 16);
     accept(&mut d, 17);
     assert_eq!(rt; d.pending, [0x8000_0000, 0, 0, 0, 0, 0, 0, 0]);
-    assert_eq!(rt; candidate(&d, 256), None);
+    let not_enabled = candidate(&d, 256);
     d.enabled[0] = 0x8000_0000;
-    assert_eq!(rt; candidate(&d, 256), Some(47));
-    assert_eq!(rt; priority(&d, 15), 0x80);
-    assert_eq!(rt; priority(&d, 18), 0);
+    let candidates = [first, second, not_enabled, candidate(&d, 256)];
+    assert_eq!(rt; candidates, [Some(15), Some(16), None, Some(47)]);
+    assert_eq!(rt; [priority(&d, 15), priority(&d, 18)], [0x80, 0]);
 }
 
 #[test]
@@ -260,13 +280,13 @@ fn interrupts_of_all_words(rt: HostRuntime) {
     arrive(&mut d, 64);
     arrive(&mut d, 239);
     assert_eq!(rt; d.pending, [0, 0, 1, 0, 0, 0, 0x100, 0x8000]);
-    assert_eq!(rt; candidate(&d, 256), Some(255));
     assert_eq!(rt; priority(&d, 255), 0x20);
+    let first = candidate(&d, 256);
     accept(&mut d, 255);
-    assert_eq!(rt; candidate(&d, 256), Some(80));
+    let second = candidate(&d, 256);
     accept(&mut d, 80);
-    assert_eq!(rt; candidate(&d, 256), Some(216));
-    assert_eq!(rt; candidate(&d, 64), None);
+    let candidates = [first, second, candidate(&d, 256), candidate(&d, 64)];
+    assert_eq!(rt; candidates, [Some(255), Some(80), Some(216), None]);
     accept(&mut d, 216);
     assert_eq!(rt; d.pending, [0; 8]);
     d.pending[7] = 0xffff_0000;
@@ -283,11 +303,15 @@ fn last_interrupt_before_the_first(rt: HostRuntime) {
     arrive(&mut d, 239);
     arrive(&mut d, 1);
     arrive(&mut d, 0);
-    assert_eq!(rt; candidate(&d, 256), Some(255));
+    let first = candidate(&d, 256);
     accept(&mut d, 255);
-    assert_eq!(rt; candidate(&d, 256), Some(16));
-    assert_eq!(rt; candidate(&d, 65), Some(16));
-    assert_eq!(rt; candidate(&d, 64), None);
+    let candidates = [
+        first,
+        candidate(&d, 256),
+        candidate(&d, 65),
+        candidate(&d, 64),
+    ];
+    assert_eq!(rt; candidates, [Some(255), Some(16), Some(16), None]);
 }
 
 #[test]
