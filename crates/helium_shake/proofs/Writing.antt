@@ -74,14 +74,6 @@ complete (w ∷ ws) = tt
 
 -- ---- an effect
 
--- the writes were cut
-pub cut_writes : (e : HostErr) (x : Effect) (old new : HostState) → WritesFiles {T = ℕ} x.files old.files new.files (Err e)
-    → Counts {T = ℕ} old.faults new.faults (Err e)
-    → Stays old.printed new.printed → Carries x old new (failure_of e)
-cut_writes Failed x old new h rose printed = (rose, inl (record { files = h; printed = printed }))
-cut_writes TooLarge x old new h rose printed = absurd h
-cut_writes OutOfMemory x old new h same printed = record { faults = same; files = h; printed = printed }
-
 pub cut_write_calls : (e : HostErr) (x : Effect) (old new : HostState) → WritesFiles {T = ℕ} x.files old.files new.files (Err e)
     → MakesCalls (map write_call x.files) old.calls new.calls (answer_way {T = ℕ} (Err e))
     → MakesCalls (calls_for x) old.calls new.calls (way_of (failure_of e))
@@ -123,10 +115,6 @@ pub all_calls : (x : Effect) (old mid new : Option (List Made)) (s : Status) →
 all_calls x old mid new HostFault complete before h = absurd complete
 all_calls x old mid new NoMemory complete before h = absurd complete
 all_calls x old mid new s complete before h = made_after (map write_call x.files) (print x.text ∷ []) old mid new to_end before h
-
--- memory was wanted before anything was done
-pub nothing_done : (x : Effect) (state : HostState) → Carries x state state NoMemory
-nothing_done x state = record { faults = refl; files = record { done = []; left = x.files; parts_are = refl; files_are = λ F is. is }; printed = λ P is. is }
 
 -- ---- a line that is printed, with no file
 

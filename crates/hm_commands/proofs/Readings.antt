@@ -12,9 +12,6 @@ use Rattle.hm_commands.specs.Calls.{after_read, read_calls, with_calls, to_end, 
 use Rattle.hm_commands.proofs.Calling.{one_made, made_after, fault_before, memory_before}
 use Rattle.hm_commands.specs.Effect.{Reading, whole, too_large, missing, after_contents, then_read, reading_of, ReadsAll}
 
-pub after_contents-nil : (r : Reading) → r ≡ after_contents [] r
-after_contents-nil r = grind arith
-
 pub after_contents-push : (before : List (List ℕ)) (bytes : List ℕ) (r : Reading)
     → after_contents before (after_contents (bytes ∷ []) r) ≡ after_contents (before ++ bytes ∷ []) r
 after_contents-push before bytes (whole contents) = ap whole (sym (append_assoc before (bytes ∷ []) contents))

@@ -1,5 +1,5 @@
 -- An image and a schedule as they were read, and what comes of them.
-use Rattle.std.proofs.Common.{◌≡◌, ◌%◌, List, Option, Some, Result, Ok, Err, refl, sym, ap, subst, ◌∙◌}
+use Rattle.std.proofs.Common.{◌≡◌, ◌%◌, List, Option, Result, Ok, Err, refl, sym, ap, subst, ◌∙◌}
 use Rattle.hm_base.specs.Image.{Segment}
 use Rattle.hm_base.specs.Results.{FailsImage}
 use Rattle.hm_base.specs.declared.errors.ImageErr.{ImageErr}
@@ -17,9 +17,8 @@ use Rattle.hm_commands.specs.RunInputs.{GivesRun}
 use Rattle.hm_commands.specs.Run.{load_stop, reset_refusal, schedule_stop}
 use Rattle.hm_commands.specs.Work.{GivesBy, image_stop}
 use Rattle.hm_commands.specs.declared.work.Refusal.{Refusal}
-use Rattle.hm_commands.specs.declared.work.Refusal.TheVariants.{Image, Schedule, Reset}
+use Rattle.hm_commands.specs.declared.work.Refusal.TheVariants.{Reset}
 use Rattle.hm_commands.specs.declared.work.Stop.{Stop}
-use Rattle.hm_commands.specs.declared.work.Stop.TheVariants.{Refused, NoMemory}
 use Rattle.hm_commands.proofs.Runs.{reset_refusal-even, reset_refusal-odd}
 
 -- ---- reading
@@ -45,19 +44,6 @@ schedule_refused e i image schedule stop at fails is =
 
 -- In what follows, given and refused say what an answer and a refusal stand for.
 -- ---- what comes of both
-
-refused_of : {T : Type 0} (refused : Refusal → T) (image : Result (List Segment) ImageErr) (schedule : Result Sched SchedErr)
-    (Is : List Segment → Sched → T → Type 0) (why : Refusal)
-    → run_refusal image schedule ≡ Some why → OfRunBy refused image schedule Is (refused why)
-refused_of refused (Err e) schedule Is why is = (let same : Image e ≡ why = cc in ap refused (sym same))
-refused_of refused (Ok image) (Err e) Is why is = (let same : Schedule e ≡ why = cc in ap refused (sym same))
-refused_of refused (Ok image) (Ok s) Is why is = absurd cc
-
-pub run_stops : {A T : Type 0} (given : A → T) (refused : Refusal → T) (image : Result (List Segment) ImageErr) (schedule : Result Sched SchedErr)
-    (Is : List Segment → Sched → T → Type 0) (stop : Stop) → GivesRun image schedule (Err stop)
-    → GivesBy given refused (OfRunBy refused image schedule Is) (Err stop)
-run_stops given refused image schedule Is (Refused why) stops = refused_of refused image schedule Is why stops
-run_stops given refused image schedule Is NoMemory stops = tt
 
 pub run_goes_on : {A T : Type 0} (given : A → T) (refused : Refusal → T) (image : Result (List Segment) ImageErr) (schedule : Result Sched SchedErr)
     (i : List Segment) (s : Sched) (Is : List Segment → Sched → T → Type 0) (answer : Result A Stop) → image ≡ Ok i → schedule ≡ Ok s

@@ -1,5 +1,5 @@
 -- What comes of a script, and of a journal, over the tape of a run.
-use Rattle.std.proofs.Common.{◌≡◌, ◌≤◌, ◌<◌, ◌%◌, ℕ, ◌+◌, ◌/◌, Bool, true, false, List, length, nat_lt, Option, Some, None, Result, Ok, Err, nat_le, refl, sym}
+use Rattle.std.proofs.Common.{◌≡◌, ◌≤◌, ◌<◌, ◌%◌, ℕ, ◌+◌, ◌/◌, Bool, true, false, List, length, nat_lt, Option, Some, None, Ok, Err, nat_le, refl, sym}
 use Rattle.std.proofs.Common.{ap, subst, ◌∙◌, arith}
 use Rattle.std.specs.Prelude.{if◌then◌else◌}
 use Rattle.std.proofs.lemmas.Bool.{le-leb, lt-leb}
@@ -14,27 +14,25 @@ use Rattle.hm_debug.specs.declared.command.Command.{Command}
 use Rattle.hm_debug.specs.declared.errors.ScriptErr.{ScriptErr}
 use Rattle.hm_debug.specs.declared.errors.ScriptErr.TheVariants as script
 use Rattle.hm_journal.specs.Journals.{Journaled, journal_text, most_checkpoints}
-use Rattle.hm_journal.specs.Outcomes.{IsReading, IsReadErr}
+use Rattle.hm_journal.specs.Outcomes.{IsReadErr}
 use Rattle.hm_journal.specs.Runs.{AreOfRun, IsCompareErr, IsWriteErr, journal_of, report_at}
 use Rattle.hm_journal.specs.declared.journal.JournalErr.{JournalErr}
 use Rattle.hm_journal.specs.declared.journal.JournalErr.TheVariants as journal
 use Rattle.hm_handlers.specs.Runs.{run_out}
 use Rattle.hm_machine.specs.Calls.{LoadRefuses}
 use Rattle.hm_machine.specs.declared.load.LoadErr.{LoadErr}
-use Rattle.hm_machine.specs.declared.load.LoadErr.TheVariants as load
 use Rattle.hm_sched.specs.Schedule.{Sched, ticks_of}
 use Rattle.hm_state.specs.Start.{reset_pc}
 use Rattle.hm_commands.specs.Commands.{IsCheckedText, IsCompared, IsDebugOutcome, IsJournalOutcome, UnlessRefused, journal_written}
-use Rattle.hm_commands.specs.Commands.{tick_outcome, unless_refused}
+use Rattle.hm_commands.specs.Commands.{tick_outcome}
 use Rattle.hm_commands.specs.Run.{load_stop, reset_refusal}
 use Rattle.hm_commands.specs.Work.{Outcome, GivesOne, finish_of, finishes, journal_stop, refuses, script_stop}
-use Rattle.hm_commands.specs.declared.work.Finish.{Finish}
 use Rattle.hm_commands.specs.declared.work.Refusal.{Refusal}
-use Rattle.hm_commands.specs.declared.work.Refusal.TheVariants.{Journal, Past, Reset}
+use Rattle.hm_commands.specs.declared.work.Refusal.TheVariants.{Journal, Past}
 use Rattle.hm_commands.specs.declared.work.Stop.{Stop}
 use Rattle.hm_commands.specs.declared.work.Stop.TheVariants.{Refused, NoMemory}
 use Rattle.hm_commands.proofs.RunInputs.{load_goes_on, load_stops}
-use Rattle.hm_commands.proofs.Runs.{reset_refusal-even, reset_refusal-odd}
+use Rattle.hm_commands.proofs.Runs.{reset_refusal-odd}
 
 unless_odd : (image : List Segment) (Is : Outcome → Type 0) (o : Outcome) → reset_pc image % 2 ≡ 1 → Is o → UnlessRefused (reset_refusal image) Is o
 unless_odd image Is o odd h = subst (λ (why : Option Refusal). UnlessRefused why Is o) (sym (reset_refusal-odd image odd)) h
@@ -126,21 +124,6 @@ pub journal_refused : (listings : List Segment → Listing) (every : ℕ) (out :
 journal_refused listings every out image s e stop odd h is =
     subst (λ (x : Stop). GivesOne (IsJournalOutcome listings every out image s) (Err x)) (sym is) (journal_by_error listings every out image s e odd h)
 
-unless_even : (image : List Segment) (value : ℕ) (o : Outcome) → value ≡ reset_pc image → value % 2 ≡ 0
-    → refuses (Reset value) ≡ unless_refused (reset_refusal image) o
-unless_even image value o is even = sym (ap (λ (why : Option Refusal). unless_refused why o) (reset_refusal-even image value is even))
-
-written_by_error : (image : List Segment) (o : Outcome) (e : LoadErr) → LoadRefuses image e
-    → GivesOne (λ x. x ≡ unless_refused (reset_refusal image) o) (Err (load_stop e))
-written_by_error image o (load.Reset value) h = unless_even image value o h.0 h.1
-written_by_error image o load.OutOfMemory h = tt
-
--- what is written of an image, where it is not for the reset address
-pub not_loaded : (image : List Segment) (o : Outcome) (e : LoadErr) (stop : Stop) → LoadRefuses image e → stop ≡ load_stop e
-    → GivesOne (λ x. x ≡ unless_refused (reset_refusal image) o) (Err stop)
-not_loaded image o e stop h is =
-    subst (λ (x : Stop). GivesOne (λ y. y ≡ unless_refused (reset_refusal image) o) (Err x)) (sym is) (written_by_error image o e h)
-
 pub journal_comes : (listings : List Segment → Listing) (every : ℕ) (out : List ℕ) (image : List Segment) (s : Sched) (bytes : List ℕ) → reset_pc image % 2 ≡ 1
     → length (ticks_of s.lines) / every + 1 ≤ most_checkpoints → bytes ≡ journal_text (journal_of (listings image) image s every)
     → IsJournalOutcome listings every out image s (finishes true (Some (out, bytes)) None)
@@ -160,15 +143,6 @@ pub journal_not_read : (listings : List Segment → Listing) (text : List ℕ) (
     → GivesOne (IsCheckedText listings text image s next) (Err stop)
 journal_not_read listings text image s next e stop h is =
     subst (λ (x : Stop). GivesOne (IsCheckedText listings text image s next) (Err x)) (sym is) (text_by_error listings text image s next e h)
-
--- a journal that was read, and what checking it comes to
-pub journal_checked : (listings : List Segment → Listing) (text : List ℕ) (image : List Segment) (s : Sched) (next : Journaled → Outcome) (j : Journaled)
-    (answer : Result Finish Stop) → IsReading text (Ok j)
-    → GivesOne (UnlessRefused (reset_refusal image) (IsCompared listings image s (next j) j)) answer
-    → GivesOne (IsCheckedText listings text image s next) answer
-journal_checked listings text image s next j (Ok finish) read h = (Ok j, read, h)
-journal_checked listings text image s next j (Err (Refused why)) read h = (Ok j, read, h)
-journal_checked listings text image s next j (Err NoMemory) read h = tt
 
 compared_by_error : (listings : List Segment → Listing) (image : List Segment) (s : Sched) (next : Outcome) (j : Journaled) (e : JournalErr)
     → IsCompareErr (listings image) image s j.format j.checkpoints e

@@ -24,12 +24,6 @@ use Rattle.hm_sched.specs.Schedule.{Sched}
 use Rattle.hm_state.specs.State.{state_of}
 use Rattle.hm_thumb.specs.Families.{is_vector_row}
 
--- an instruction that is no vector row has one alone
-pub other_goes_on : (i : Instr) (old new : Cpu) → IsTrue (not (is_vector_row i)) → LeavesTheRest i old new
-other_goes_on (instr.Scalar i) old new other = λ more. absurd (omega (arith, more))
-other_goes_on (instr.Branch i) old new other = λ more. absurd (omega (arith, more))
-other_goes_on (instr.Vector v) old new other = absurd cc
-
 -- a beat before the last
 pub beats_go_on : (v : Vector) (old new : Cpu) → (old.window.a < 3 → (new.regs.pc ≡ old.regs.pc) × (new.window.a ≡ old.window.a + 1))
     → new.acts ≡ old.acts → LeavesTheRest (instr.Vector v) old new

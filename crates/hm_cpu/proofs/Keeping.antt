@@ -9,19 +9,6 @@ use Rattle.hm_mem.specs.Seen.{IsSameElsewhere}
 pub same_flash : (m n : Memory) → IsSameElsewhere m n → flash_at n ≡ flash_at m
 same_flash m n h = λ j. λ (a : ℕ). slice_index_or (h.flash j) a 255
 
--- what holds under the listing of the memory as it is now holds under that of the memory at first
-pub kept_step : (m n : Memory) → IsSameElsewhere m n → (listing : Listing) → (F : Around → Type 0) → (IsListing (flash_at n) listing → F n.around)
-    → IsListing (flash_at m) listing → F m.around
-kept_step m n h listing F now is = subst F h.around (now (subst (λ (f : ℕ → ℕ). IsListing f listing) (sym (same_flash m n h)) is))
-
-pub keeps_then : {x y z : Cpu} → Keeps x y → Keeps y z → Keeps x z
-keeps_then h k = record {
-  memory = record { flash = k.memory.flash ∙ h.memory.flash; around = k.memory.around ∙ h.memory.around };
-  position = k.position;
-  room = k.room ∙ h.room;
-  acts = k.acts ∙ h.acts;
-}
-
 pub moves_then : {x y z : Cpu} → KeepsFlash x y → KeepsFlash y z → KeepsFlash x z
 moves_then h k = record { flash = k.flash ∙ h.flash; places = k.places ∙ h.places; room = k.room ∙ h.room }
 

@@ -10,7 +10,7 @@ use Rattle.hm_beat.specs.Laws.{AnswersBeat}
 use Rattle.hm_beat.specs.Ordered.{of_four}
 use Rattle.hm_beat.specs.Trees.{action}
 use Rattle.hm_codes.specs.Listing.{Listing}
-use Rattle.hm_cpu.specs.Cpus.{config_of, executed, state_in}
+use Rattle.hm_cpu.specs.Cpus.{config_of, state_in}
 use Rattle.hm_cpu.specs.declared.cpu.Cpu.{Cpu}
 use Rattle.hm_isa.specs.declared.Instr.{Instr}
 use Rattle.hm_isa.specs.declared.Vector.{Vector}
@@ -29,7 +29,7 @@ use Rattle.hm_rows.specs.Rows.{refuse, vector_tree}
 use Rattle.hm_run.proofs.Steps.{break_makes, makes_other, makes_row, no_row, older_vector, older_other, other_is, past}
 use Rattle.hm_run.specs.declared.Cause.{Cause}
 use Rattle.hm_run.specs.declared.Cause.TheVariants as cause
-use Rattle.hm_run.specs.Program.{Program, breakpoint, doing_in_machine, caused, core, done_as, with_cause, made_here, makes_here}
+use Rattle.hm_run.specs.Program.{Program, breakpoint, doing_in_machine, core, done_as, with_cause, made_here, makes_here}
 use Rattle.hm_run.specs.Program.{other_here, other_row, rows, unless_refused, vector_of}
 use Rattle.hm_run.specs.Stops.{at_break, break_of}
 use Rattle.hm_state.proofs.Beside.{pc_is}
@@ -51,18 +51,6 @@ begins_first listing around v done s t o first made e =
     ap (λ (q : Option Fault). with_cause (unless_refused q t)) (sym e)
     ∙ ap (λ (u : State). with_cause (unless_refused (refuse v u) u)) made
     ∙ ap (λ (k : ℕ). begin (core listing around) v k s) (sym first)
-
-pub begins_later : (listing : Listing) (around : Around) (v : Vector) (done : ℕ) (s : State) → 0 < done → Ok s ≡ begin (core listing around) v done s
-begins_later listing around v zero s h = absurd (omega arith)
-begins_later listing around v (suc done) s h = refl
-
--- what a beat answered
-pub beat_is : (q : Result State Stop) (x : Result Unit Stop) (y : Result Unit Cause) (r t : Regs) (m n : Memory) (output : List ℕ)
-    → AnswersBeat q x r m t n output → ((u : Unit) → x ≡ Ok u → y ≡ Ok u) → ((e : Stop) → x ≡ Err e → y ≡ Err (cause.Stop e))
-    → executed y (state_of t n output) ≡ caused q
-beat_is (Ok s) (Ok u) y r t m n output h goes stops = ap (λ (z : Result Unit Cause). executed z (state_of t n output)) (goes u refl) ∙ ap Ok h.1
-beat_is (Ok s) (Err e) y r t m n output h goes stops = absurd (let no = h.0 in cc)
-beat_is (Err e) x y r t m n output h goes stops = ap (λ (z : Result Unit Cause). executed z (state_of t n output)) (stops e h.0)
 
 -- one that stops changes nothing
 pub beat_still : (q : Result State Stop) (x : Result Unit Stop) (e : Stop) (r t : Regs) (m n : Memory) (output : List ℕ)

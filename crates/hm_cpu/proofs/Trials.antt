@@ -16,7 +16,7 @@ use Rattle.hm_beat.proofs.Exchange.{rest_stays}
 use Rattle.hm_codes.specs.Listing.{Listing}
 use Rattle.hm_cpu.specs.Trials.{HoldsAll, standing}
 use Rattle.hm_isa.specs.declared.Vector.{Vector}
-use Rattle.hm_mem.specs.Memory.{Around, Memory, byte_at, tainted_at}
+use Rattle.hm_mem.specs.Memory.{Around, Memory}
 use Rattle.hm_mem.specs.Seen.{IsSameElsewhere}
 use Rattle.hm_order.specs.Beats.{then}
 use Rattle.hm_order.specs.Machine as order
@@ -84,14 +84,6 @@ all_held all others h = subst (HoldsAll all) (append-nil others) h
 -- MEMORIES
 pub same_but : (xs ys : List ℕ) (m n : Memory) → IsSameBut xs m n → HoldsAll xs ys → IsSameBut ys m n
 same_but xs ys m n h all = record { bytes = λ a e. h.bytes a (all a e); taint = λ a e. h.taint a (all a e); devices = h.devices; elsewhere = h.elsewhere }
-
-pub same_at : (xs : List ℕ) (m n : Memory) → n ≡ m → IsSameBut xs m n
-same_at xs m n e = record {
-  bytes = λ a h. ap (λ (x : Memory). byte_at x a) e;
-  taint = λ a h. ap (λ (x : Memory). tainted_at x a) e;
-  devices = ap (λ (x : Memory). x.devices) e;
-  elsewhere = record { flash = ap (λ (x : Memory). x.flash) e; around = ap (λ (x : Memory). x.around) e };
-}
 
 pub held_there : (h : Held) (m : Memory) (a : ℕ) → h ≡ held_at m a → h ≡ held_at m h.addr
 held_there h m a e = e ∙ ap (held_at m) (sym (ap (λ (x : Held). x.addr) e))
@@ -189,10 +181,6 @@ stored v r m output t p beat same =
       devices = ap (λ (x : Rest). x.devices) (rest_stays (vector_tree v m.around 2) s (state_of t p output) did);
       elsewhere = same;
     }
-
--- another position
-pub not_at : (M : Program) (c : Config State) → (c.a == 2) ≡ false → false ≡ is_ready M c
-not_at M c e = sym (ap (λ (b : Bool). b && ((c.b == 0) && goes_on (then (order.older M c) (younger M)))) e)
 
 and_false : (b : Bool) → false ≡ (b && false)
 and_false b = grind arith

@@ -1,21 +1,19 @@
 -- The steps of the younger of two rows.
-use Rattle.std.proofs.Common.{◌≡◌, ℕ, ◌+◌, ap, sym, ◌∙◌, Bool, true, ◌&&◌, cond, IsTrue, List, Option, Some, None, Err}
+use Rattle.std.proofs.Common.{◌≡◌, ℕ, ◌+◌, ap, sym, ◌∙◌, true, ◌&&◌, cond, IsTrue, List, Option, Some, None, Err}
 use Rattle.std.specs.Option.{is_none, option_or}
 use Rattle.hm_base.specs.declared.Fault.{Fault}
 use Rattle.hm_codes.specs.Listing.{Listing}
-use Rattle.hm_cpu.specs.Cpus.{config_of, step_ended, state_in}
-use Rattle.hm_cpu.specs.declared.step_ends.StepEnd.{StepEnd}
+use Rattle.hm_cpu.specs.Cpus.{config_of, state_in}
 use Rattle.hm_cpu.specs.declared.cpu.Cpu.{Cpu}
 use Rattle.hm_isa.specs.declared.Vector.{Vector}
-use Rattle.hm_mem.specs.Memory.{Around, Memory, memory_of}
+use Rattle.hm_mem.specs.Memory.{Memory, memory_of}
 use Rattle.hm_order.specs.Machine as order
-use Rattle.hm_order.specs.Machine.{Config, did, fault_end, younger, younger_of}
+use Rattle.hm_order.specs.Machine.{Config, did, younger, younger_of}
 use Rattle.hm_regs.specs.declared.Regs.{Regs}
 use Rattle.hm_rows.specs.Rows.{refuse, vector_tree}
-use Rattle.hm_run.specs.declared.Cause.{Cause}
 use Rattle.hm_window.specs.declared.rule.Rule.{Rule}
 use Rattle.hm_window.specs.declared.rule.Rule.TheVariants as rule
-use Rattle.hm_run.specs.Program.{Program, Stepped, core, fault_rule, is_tainted_cause, refusal_rule, rows, step_rule, vector_of}
+use Rattle.hm_run.specs.Program.{Program, Stepped, core, refusal_rule, rows, step_rule, vector_of}
 use Rattle.hm_state.specs.State.{State, state_of}
 use Rattle.hm_window.specs.Overlap.{first_rule}
 
@@ -79,9 +77,3 @@ module _ (listing : Listing) (x : Cpu) where
       → None ≡ step_rule (memory_of x.mem).around (Some v) (Some w) (config_of x)
       → r ≡ did M (config_of x) (((rows (memory_of x.mem).around).act w x.window.b).run (state_in x)) → r ≡ younger M (config_of x)
   younger_beats v w r here there e run = run ∙ younger_by v w None here there e
-
--- a beat that stops
-pub step_ended_is : (e : Cause) (q : Bool) (h : StepEnd) (c : Config State) (listing : Listing) (around : Around) → is_tainted_cause e ≡ q
-    → step_ended h c ≡ fault_end (core listing around) (cond q None (Some rule.YoungerFault)) c e
-    → step_ended h c ≡ fault_end (core listing around) (fault_rule e) c e
-step_ended_is e q h c listing around is here = here ∙ (λ j. fault_end (core listing around) (cond (sym is j) None (Some rule.YoungerFault)) c e)

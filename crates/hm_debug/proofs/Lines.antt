@@ -1,12 +1,12 @@
 -- The first line of a text, and the lines behind it.
-use Rattle.std.proofs.Common.{◌≡◌, ℕ, ◌+◌, ◌-◌, ◌<◌, ◌≤◌, ap, arith, refl, sym, ◌∙◌, List, [], ◌∷◌, ◌++◌, append-nil, drop, length, take, true, Option, Some}
+use Rattle.std.proofs.Common.{◌≡◌, ℕ, ◌+◌, ◌-◌, ◌≤◌, ap, arith, refl, sym, ◌∙◌, List, [], ◌∷◌, ◌++◌, append-nil, drop, length, take, true, Option, Some}
 use Rattle.std.proofs.Common.{None, is_some, IfSome}
 use Rattle.std.proofs.lemmas.List.{take_all}
 use Rattle.hm_text_base.proofs.LineLaws.{lines_from, lines_span}
 use Rattle.hm_text_base.proofs.SpanLaws.{span_parts}
 use Rattle.hm_text_base.specs.Spans.{lines_of, span}
 use Rattle.hm_debug.specs.Commands.{Says}
-use Rattle.hm_debug.specs.Scripts.{IsFirstBad, lines_in}
+use Rattle.hm_debug.specs.Scripts.{lines_in}
 use Rattle.hm_debug.specs.declared.command.Command.{Command}
 
 pub line_unended : (text front rest : List ℕ) → (front, rest) ≡ span 10 text → length rest ≡ 0 → lines_of text ≡ ([], text)
@@ -22,14 +22,6 @@ line_ended text front (b ∷ rest) e some = rw (lines_span text, ← e, take_all
 pub count_line : (ls : List (List ℕ)) (l rest : List ℕ) → lines_in (l ∷ ls, rest) ≡ lines_in (ls, rest) + 1
 count_line ls l [] = omega arith
 count_line ls l (b ∷ bs) = omega arith
-
-pub count_rest : (text : List ℕ) → 0 < length text → lines_in ([], text) ≡ 1
-count_rest [] some = absurd (omega arith)
-count_rest (b ∷ bs) some = refl
-
-pub bad_rest : (text : List ℕ) (k : ℕ) → 0 < length text → IsFirstBad k k ([], text)
-bad_rest [] k some = absurd (omega arith)
-bad_rest (b ∷ bs) k some = refl
 
 pub some_says : (line : List ℕ) (o : Option Command) → is_some o ≡ true → IfSome o (λ c. Says line c) → (c : Command) × Says line c
 some_says line (Some c) e says = (c, says)

@@ -18,10 +18,10 @@ use Rattle.hm_mem.specs.Memory.{Around, Memory, memory_of, thread_under}
 use Rattle.hm_mem.specs.Seen.{seen, with_dev}
 use Rattle.hm_mem.specs.declared.Actor.TheVariants.{Handler}
 use Rattle.hm_mem.specs.declared.Dev.{Dev}
-use Rattle.hm_order.specs.Machine.{Config, Stopped}
+use Rattle.hm_order.specs.Machine.{Stopped}
 use Rattle.hm_regs.specs.declared.Regs.{Regs}
 use Rattle.hm_run.specs.Program.{Stopping}
-use Rattle.hm_run.specs.Timed.{at_stop, counted_with, outcome_of, who_runs, with_devices, bounds_of}
+use Rattle.hm_run.specs.Timed.{counted_with, outcome_of, who_runs, with_devices, bounds_of}
 use Rattle.hm_run.specs.declared.Cause.{Cause}
 use Rattle.hm_run.specs.declared.Outcome.{Outcome}
 use Rattle.hm_run.specs.declared.Outcome.TheVariants as outcome
@@ -32,7 +32,6 @@ use Rattle.hm_sys.specs.Exceptions.{priority_of}
 use Rattle.hm_whole.proofs.Agreement.{made_of}
 use Rattle.hm_whole.specs.Whole.{state_with}
 use Rattle.hm_window.specs.Positions.{may_end}
-use Rattle.hm_window.specs.declared.rule.Rule.{Rule}
 use Rattle.hm_window.specs.declared.rule.Rule.TheVariants as rule
 
 -- WHERE SOMETHING DID NOT GO ON
@@ -42,13 +41,6 @@ who_thread acts none = ap (λ (l : List Interrupted). who_runs (map stacked_of l
 pub who_handler : (acts : List Interrupted) → 0 < length acts → InHandler ≡ who_runs (map stacked_of acts)
 who_handler [] some = absurd (omega arith)
 who_handler (x ∷ acts) some = refl
-
-pub stopped_above : (acts : List Interrupted) (c : Config State) (e : Stopping) → 0 < length acts → c ≡ stopped_under acts c e
-stopped_above [] c e some = absurd (omega arith)
-stopped_above (x ∷ acts) c e some = refl
-
-pub stopped_in_thread : (acts : List Interrupted) (c : Config State) (e : Stopping) → acts ≡ [] → at_stop c e ≡ stopped_under acts c e
-stopped_in_thread acts c e none = ap (λ (l : List Interrupted). stopped_under l c e) (sym none)
 
 pub stops_so : (x y : Cpu) (t k : ℕ) (younger : Bool) (e : Cause) (o : Outcome) (es : List Pointers)
     → let stopping : Stopping = record { cause = e; younger = younger } in
@@ -65,16 +57,6 @@ module _ (s : Sched) (line : TickLine) (m : Nested) (t : ℕ) (es : List Pointer
   abbrev judged_by : Bool → Run
   judged_by b = if b then may_enter s (after_count line ran)
       else record ran { outcome = Some (outcome.RuleBroken t (length line.letters) (rule.Ending m.config.a m.config.b)) }
-
-  -- at a position where it may not end
-  badly : (b : Bool) (steps : ℕ) (q : Rule) → b ≡ false → q ≡ rule.Ending m.config.a m.config.b → length line.letters ≡ steps
-      → Came (Err (outcome.RuleBroken t steps q)) m t es (judged_by b)
-  badly true steps q e is n = absurd cc
-  badly false steps q e is n = (λ j. run_with (Some (outcome.RuleBroken t (sym n j) (is j))) m t es, omega arith)
-
-  pub ends_badly : (steps : ℕ) (q : Rule) → may_end m.config.a m.config.b ≡ false → q ≡ rule.Ending m.config.a m.config.b → length line.letters ≡ steps
-      → Came (Err (outcome.RuleBroken t steps q)) m t es (tick_end s line ran)
-  ends_badly steps q e is n = badly (may_end m.config.a m.config.b) steps q e is n
 
   -- and where it may
   well : (b : Bool) (o : Result Bool Outcome) (y : Nested) → b ≡ true → Came o y t es (may_enter s (after_count line ran)) → Came o y t es (judged_by b)
@@ -183,9 +165,6 @@ module _ (s : Sched) (x y : Cpu) (e : ℕ) (under : IsUnder s x) (registers : re
 -- WHAT RUNS: the newest exception is the most urgent
 pub first_least : (d : Dev) (x : Interrupted) (acts : List Interrupted) → AreUrgent d (x ∷ acts) → priority_of d x.stacked.number ≡ least_active d (x ∷ acts)
 first_least d x acts h = let over = h.0 in omega (arith, over)
-
-pub priority_thread : (d : Dev) (acts : List Interrupted) → acts ≡ [] → 256 ≡ least_active d acts
-priority_thread d acts none = sym (ap (least_active d) none)
 
 pub priority_newest : (d : Dev) (x : Interrupted) (acts rest : List Interrupted) → acts ≡ x ∷ rest → AreUrgent d acts
     → priority_of d x.stacked.number ≡ least_active d acts

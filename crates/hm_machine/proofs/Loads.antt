@@ -106,9 +106,6 @@ odd_pc image m pc flash e odd =
     let q : pc ≡ reset_pc image = e ∙ ap (λ (f : ℕ → ℕ). word_at f 4) flash in
     subst (λ (n : ℕ). n % 2 ≡ 1) q (omega arith)
 
-pub reset_is : (image : List Segment) (m : Memory) (pc : ℕ) → flash_at m ≡ flash_byte image → pc ≡ word_at (flash_at m) 4 → pc ≡ reset_pc image
-reset_is image m pc flash e = e ∙ ap (λ (f : ℕ → ℕ). word_at f 4) flash
-
 -- a run that goes on has a tick
 pub running_ticks : (n : ℕ) (o : Option Outcome) → o ≡ None → (n ≡ 0 → o ≡ Some outcome.OutOfTicks) → 0 < n
 running_ticks zero o none out = absurd (let e = out refl in cc)

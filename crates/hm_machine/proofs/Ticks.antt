@@ -27,10 +27,6 @@ pub may_end_well : (b : Bool) (r : Rule) (u : Unit {0}) → judged (cond b None 
 may_end_well true r u e = refl
 may_end_well false r u e = let no : Err r ≡ Ok u = e in absurd cc
 
-pub may_end_badly : (b : Bool) (r q : Rule) → judged (cond b None (Some r)) ≡ Err q → (b ≡ false) × (q ≡ r)
-may_end_badly true r q e = let no : Ok tt ≡ Err q = e in absurd cc
-may_end_badly false r q e = (refl, let same : Err r ≡ Err q = e in cc)
-
 -- SHOWING
 drop_next : (t : ℕ) (xs : List TickLine) → drop 1 (drop t xs) ≡ drop (suc t) xs
 drop_next t xs = drop-drop 1 t xs ∙ ap (λ (k : ℕ). drop k xs) (add-one t)

@@ -4,7 +4,7 @@ use Rattle.std.specs.Prelude.{IfSome}
 use Rattle.hm_base.specs.Image.{Segment, flash_byte}
 use Rattle.hm_codes.specs.Listing.{IsListing, Listing}
 use Rattle.hm_handlers.proofs.Alike.{alike_every}
-use Rattle.hm_handlers.specs.Runs.{Run, run_out, shown, shown_out}
+use Rattle.hm_handlers.specs.Runs.{Run, run_out, shown_out}
 use Rattle.hm_machine.specs.Shown.{Shown, Shows, timed_of}
 use Rattle.hm_run.specs.Report.{report_text}
 use Rattle.hm_run.specs.declared.Outcome.{Outcome}
@@ -42,9 +42,6 @@ module _ (listing : Listing) (image : List Segment) (s : Sched) (m : Shown) (sho
   unfolding ended_under
   ends_so o k t e f g =
       (λ j. record { kind = (f ∙ ap kind_or (sym e)) j; ticks = g j }) ∙ ap ended_in (shows.now listing is)
-
-  pub reports_so : report_text (timed_of m) ≡ report_text (shown_out listing image s)
-  reports_so = ap (λ (x : Run). report_text (shown x)) (shows.now listing is)
 
 -- whole instructions end alike under every head
 pub plain_so : (listing : Listing) (image : List Segment) (h : Head) (n : ℕ) → ended_under listing image (whole_ticks h n) ≡ ended_plain listing image n

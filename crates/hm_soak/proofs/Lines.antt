@@ -1,27 +1,13 @@
 -- Lines that are added to a schedule, pair by pair.
-use Rattle.std.proofs.Common.{◌≡◌, ◌≢◌, ℕ, zero, suc, ◌+◌, ◌*◌, ◌%◌, ◌≤◌, Bool, true, false, cond, nat_eq, List, [], ◌∷◌, ◌++◌, refl, sym, ap, ◌∙◌, arith, inl}
-use Rattle.std.proofs.Common.{inr}
-use Rattle.std.specs.List.{All}
+use Rattle.std.proofs.Common.{◌≡◌, ℕ, zero, suc, ◌+◌, ◌*◌, ◌%◌, ◌≤◌, Bool, true, false, cond, nat_eq, List, [], ◌∷◌, ◌++◌, refl, sym, ap, ◌∙◌, arith}
 use Rattle.std.specs.Prelude.{IfOk, Result, Ok, Err}
-use Rattle.std.proofs.lemmas.Bool.Decides.{nat_tests}
 use Rattle.std.proofs.lemmas.List.{append-nil, append_assoc}
-use Rattle.std.proofs.lemmas.List.Elements.{All-cons, All-nil}
 use Rattle.std.proofs.lemmas.List.Sums.{sum_by-append}
 use Rattle.hm_base.specs.Image.{sram_start}
 use Rattle.hm_base.specs.declared.errors.OutOfMemory.{OutOfMemory}
-use Rattle.hm_sched.specs.Schedule.{IsLetter, Sched, TickLine, older_letter, plain_line, total, whole_letter, younger_letter}
+use Rattle.hm_sched.specs.Schedule.{Sched, TickLine, plain_line, total}
 use Rattle.hm_soak.specs.Lines.{with_lines}
 use Rattle.hm_soak_laws.specs.Schedule.{both, pair_lines, pairs, schedule, twice}
-
--- LETTERS
-pub one_whole : All IsLetter (whole_letter ∷ [])
-one_whole = All-cons IsLetter whole_letter [] (inr (inr refl)) (All-nil IsLetter)
-
-pub two_older : All IsLetter (older_letter ∷ older_letter ∷ [])
-two_older = All-cons IsLetter older_letter (older_letter ∷ []) (inl refl) (All-cons IsLetter older_letter [] (inl refl) (All-nil IsLetter))
-
-pub one_each : All IsLetter (older_letter ∷ younger_letter ∷ [])
-one_each = All-cons IsLetter older_letter (younger_letter ∷ []) (inl refl) (All-cons IsLetter younger_letter [] (inr (inl refl)) (All-nil IsLetter))
 
 -- LINES behind others
 pub total_with : (xs : List TickLine) (s : Sched) → total (with_lines xs s).lines ≡ total s.lines + total xs
@@ -43,14 +29,6 @@ pub total_more : (xs : List TickLine) (a b : Sched) → b ≡ with_lines xs a �
 total_more xs a b h = ap (λ (s : Sched). total s.lines) h ∙ total_with xs a
 
 -- PAIRS
-pub pair_entered : (p : ℕ) → p % 64 ≡ 0 → pair_lines p ≡ twice 1 ∷ both 1 ∷ plain_line 3 ∷ []
-pair_entered p e =
-    let t : nat_eq (p % 64) 0 ≡ true = grind (arith, nat_tests) in ap (λ (b : Bool). cond b (twice 1 ∷ both 1 ∷ plain_line 3 ∷ []) (twice 1 ∷ both 0 ∷ [])) t
-
-pub pair_alone : (p : ℕ) → p % 64 ≢ 0 → pair_lines p ≡ twice 1 ∷ both 0 ∷ []
-pair_alone p e =
-    let t : nat_eq (p % 64) 0 ≡ false = grind (arith, nat_tests) in ap (λ (b : Bool). cond b (twice 1 ∷ both 1 ∷ plain_line 3 ∷ []) (twice 1 ∷ both 0 ∷ [])) t
-
 either_few : (b : Bool) → total (cond b (twice 1 ∷ both 1 ∷ plain_line 3 ∷ []) (twice 1 ∷ both 0 ∷ [])) ≤ 5
 either_few true = let e : total (twice 1 ∷ both 1 ∷ plain_line 3 ∷ []) ≡ 5 = refl in omega arith
 either_few false = let e : total (twice 1 ∷ both 0 ∷ []) ≡ 2 = refl in omega arith

@@ -1,7 +1,5 @@
 -- Texts that are added one behind another.
-use Rattle.std.proofs.Common.{◌≡◌, ℕ, suc, ◌+◌, ◌-◌, ◌<◌, ◌≤◌, ap, arith, sym, ◌∙◌, List, [], ◌∷◌, ◌++◌, append-nil, append_assoc, length, take, get_or}
-use Rattle.std.proofs.lemmas.List.{reverse-append, take_more}
-use Rattle.std.specs.Prelude.{reverse}
+use Rattle.std.proofs.Common.{◌≡◌, ℕ, suc, ◌+◌, ◌-◌, ◌<◌, ◌≤◌, ap, arith, sym, ◌∙◌, List, ◌++◌, append-nil, append_assoc}
 use Rattle.hm_trace.specs.Changes.{texts_from}
 
 -- the text of one more number, and of the others
@@ -25,8 +23,3 @@ unfolding texts_from
 texts_done text count k out all past left =
     let none : count - k ≡ 0 = omega arith in
     sym (append-nil out) ∙ ap (λ (t : List ℕ). out ++ t) (sym (ap (texts_from text k) none)) ∙ left
-
--- the last of some elements is the first of them in reverse
-pub reverse_more : {A : Type 0} (xs : List A) (i : ℕ) (x : A) → i < length xs → x ≡ get_or xs i x → reverse (take (i + 1) xs) ≡ x ∷ reverse (take i xs)
-reverse_more xs i x below is =
-    ap reverse (take_more xs i x below) ∙ reverse-append (take i xs) (get_or xs i x ∷ []) ∙ ap (λ u. u ∷ reverse (take i xs)) (sym is)
