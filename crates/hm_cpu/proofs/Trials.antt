@@ -22,10 +22,10 @@ use Rattle.hm_order.specs.Beats.{then}
 use Rattle.hm_order.specs.Machine as order
 use Rattle.hm_order.specs.Machine.{Config, did, done, older_of, settle, younger, younger_of}
 use Rattle.hm_in_order.proofs.Laws.{caused_ok}
-use Rattle.hm_plan_laws.specs.Greedy.{goes_on, is_ready}
 use Rattle.hm_regs.specs.declared.Regs.{Regs}
 use Rattle.hm_rows.specs.Rows.{vector_tree}
 use Rattle.hm_run.proofs.Steps.{older_vector}
+use Rattle.hm_run.specs.Ready.{goes_on, is_ready}
 use Rattle.hm_run.specs.declared.Cause.{Cause}
 use Rattle.hm_run.specs.Program.{Program, Stepped, caused, core, rows, step_rule, vector_of}
 use Rattle.hm_state.specs.State.{Rest, State, Value, cells, state_of}

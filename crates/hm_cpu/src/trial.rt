@@ -7,9 +7,9 @@ ghost use Rattle.hm_exec.specs.Families.{row_of};
 ghost use Rattle.hm_cpu.specs.Trials.{HoldsAll, standing};
 ghost use Rattle.hm_mem.specs.Memory.{flash_at, memory_of};
 ghost use Rattle.hm_order.specs.Machine.{younger};
-ghost use Rattle.hm_plan_laws.specs.Greedy.{goes_on, is_ready};
 ghost use Rattle.hm_rows.specs.Rows.{vector_tree};
 ghost use Rattle.hm_run.specs.Program.{core, vector_of};
+ghost use Rattle.hm_run.specs.Ready.{goes_on, is_ready};
 ghost use Rattle.hm_state.specs.State.{state_of};
 ghost use Rattle.hm_undo.specs.Undo.{IsSameBut};
 

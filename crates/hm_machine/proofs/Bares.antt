@@ -20,9 +20,9 @@ use Rattle.hm_machine.specs.Machines.{GoesOn, StandsIn, left_at, left_in}
 use Rattle.hm_machine.specs.declared.cursor.Cursor.{Cursor}
 use Rattle.hm_machine.specs.Shown.{Shown, Shows, run_of, run_with}
 use Rattle.hm_mem.specs.Memory.{flash_at, memory_of, thread_under}
+use Rattle.hm_run.specs.Bare.{bare}
 use Rattle.hm_state.specs.Start.{first_bounds}
 use Rattle.hm_state.specs.State.{state_of}
-use Rattle.hm_plan_laws.specs.Planned.{bare}
 use Rattle.hm_position.specs.Next.{after_ticks}
 use Rattle.hm_run.specs.declared.Outcome.{Outcome}
 use Rattle.hm_sched.specs.Schedule.{TickLine, Sched, ticks_of}

@@ -6,10 +6,10 @@ use Rattle.hm_codes.specs.Listing.{Listing, IsListing}
 use Rattle.hm_handlers.specs.Runs.{Run, begin}
 use Rattle.hm_machine.specs.Shown.{Shown, run_of}
 use Rattle.hm_mem.specs.Memory.{flash_at}
-use Rattle.hm_plan_laws.specs.Greedy.{is_ready}
-use Rattle.hm_plan_laws.specs.Planned.{bare}
 use Rattle.hm_position.specs.Next.{after_ticks}
+use Rattle.hm_run.specs.Bare.{bare}
 use Rattle.hm_run.specs.Program.{Program}
+use Rattle.hm_run.specs.Ready.{is_ready}
 use Rattle.hm_sched.specs.Schedule.{TickLine}
 
 -- A machine shows an image after the ticks that it was given.

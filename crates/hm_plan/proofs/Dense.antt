@@ -5,8 +5,9 @@ use Rattle.std.proofs.lemmas.Bool.Decides.{nat_tests}
 use Rattle.hm_isa.specs.declared.Vector.{Vector}
 use Rattle.hm_order.proofs.Results.{decide}
 use Rattle.hm_order.specs.Machine.{Config}
-use Rattle.hm_plan_laws.specs.Greedy.{greedy_at, greedy_with, is_ready, letters_of}
+use Rattle.hm_plan_laws.specs.Greedy.{greedy_at, greedy_with, letters_of}
 use Rattle.hm_run.specs.Program.{Program}
+use Rattle.hm_run.specs.Ready.{is_ready}
 use Rattle.hm_sched.specs.Schedule.{older_letter, whole_letter}
 use Rattle.hm_state.specs.State.{State}
 

@@ -8,8 +8,9 @@ use Rattle.hm_plan_laws.proofs.Loops.{Stands, none_first, runs_on, stands_first,
 use Rattle.hm_plan_laws.proofs.Plans.{not_below}
 use Rattle.hm_plan_laws.specs.Greedy.{greedy_at}
 use Rattle.hm_position.proofs.Prefixes.{one_tick}
-use Rattle.hm_plan_laws.specs.Planned.{bare, bare_program, grown, is_over, lines_from, plan_line, planned}
+use Rattle.hm_plan_laws.specs.Planned.{grown, is_over, lines_from, plan_line, planned}
 use Rattle.hm_plan_laws.specs.declared.Greedy.{Greedy}
+use Rattle.hm_run.specs.Bare.{bare, bare_program}
 use Rattle.hm_run.specs.Program.{Program}
 use Rattle.hm_handlers.specs.Runs.{Run, begin, tick}
 use Rattle.hm_sched.specs.Schedule.{TickLine, Sched}

@@ -16,8 +16,9 @@ use Rattle.hm_plan_laws.proofs.Loops.{runs_on}
 use Rattle.hm_plan_laws.proofs.Open.{rule_none}
 use Rattle.hm_plan_laws.specs.Ends.{IsGreedyAt}
 use Rattle.hm_plan_laws.specs.Greedy.{IsReady}
-use Rattle.hm_plan_laws.specs.Planned.{bare, bare_program, plan_line}
+use Rattle.hm_plan_laws.specs.Planned.{plan_line}
 use Rattle.hm_plan_laws.specs.declared.Greedy.TheVariants as greedy
+use Rattle.hm_run.specs.Bare.{bare, bare_program}
 use Rattle.hm_run.specs.Program.{Program, Stepped}
 use Rattle.hm_run.specs.declared.Cause.{Cause}
 use Rattle.hm_run.specs.declared.Outcome.{Outcome}

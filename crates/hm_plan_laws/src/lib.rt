@@ -6,13 +6,14 @@ ghost use Rattle.std.specs.Prelude.{◌≡◌, ◌↔◌, ℕ, ◌*◌, ◌≤�
 ghost use Rattle.hm_base.specs.Image.{Segment};
 ghost use Rattle.hm_codes.specs.Listing.{Listing};
 ghost use Rattle.hm_plan_laws.specs.Ends.{DecidedBy, EndsAs, IsGreedyAt, IsPlanEnd};
-ghost use Rattle.hm_plan_laws.specs.Greedy.{IsReady, is_ready};
+ghost use Rattle.hm_plan_laws.specs.Greedy.{IsReady};
 ghost use Rattle.hm_plan_laws.specs.Planned.{planned};
 ghost use Rattle.hm_position.specs.Next.{after_ticks};
 ghost use Rattle.hm_run.specs.InOrder.{in_order};
 ghost use Rattle.hm_handlers.specs.Runs.{begin, run, shown_out};
 ghost use Rattle.hm_order.specs.Machine.{Config};
 ghost use Rattle.hm_run.specs.Program.{Program};
+ghost use Rattle.hm_run.specs.Ready.{is_ready};
 ghost use Rattle.hm_sched.specs.Schedule.{Sched, TickLine, ticks_of};
 ghost use Rattle.hm_state.specs.State.{State};
 

@@ -5,9 +5,9 @@ use Rattle.hm_exec.specs.Families.{row_of}
 use Rattle.hm_cpu.proofs.Trials.{ready_alone}
 use Rattle.hm_cpu.specs.Trials.{HoldsAll, standing}
 use Rattle.hm_mem.specs.Memory.{memory_of}
-use Rattle.hm_plan_laws.specs.Greedy.{is_ready}
 use Rattle.hm_rows.specs.Rows.{vector_tree}
 use Rattle.hm_run.specs.Program.{core}
+use Rattle.hm_run.specs.Ready.{is_ready}
 use Rattle.hm_state.specs.State.{state_of}
 use Rattle.hm_cpu.proofs.trial.ready.Goals as goal
 

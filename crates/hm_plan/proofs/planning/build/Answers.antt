@@ -8,8 +8,9 @@ use Rattle.hm_mem.specs.Memory.{flash_at}
 use Rattle.hm_plan.proofs.Growing.{all_lined, first_stands, next_stands, next_ticks, nothing_lined}
 use Rattle.hm_plan_laws.proofs.Loops.{few}
 use Rattle.hm_plan_laws.proofs.Plans.{is_below}
-use Rattle.hm_plan_laws.specs.Planned.{bare, is_over, plan_line}
+use Rattle.hm_plan_laws.specs.Planned.{is_over, plan_line}
 use Rattle.hm_handlers.specs.Runs.{Run, begin, tick}
+use Rattle.hm_run.specs.Bare.{bare}
 use Rattle.hm_sched.specs.Schedule.{Sched, total}
 use Rattle.hm_plan.proofs.planning.build.Goals as goal
 

@@ -5,7 +5,7 @@ use Rattle.hm_machine.specs.Bares.{IsBare}
 use Rattle.hm_machine.specs.Shown.{run_of}
 use Rattle.hm_mem.specs.Memory.{flash_at}
 use Rattle.hm_plan_laws.proofs.Loops.{Stands}
-use Rattle.hm_plan_laws.specs.Planned.{bare}
+use Rattle.hm_run.specs.Bare.{bare}
 use Rattle.hm_sched.specs.Schedule.{total}
 use Rattle.hm_plan.proofs.planning.build.Given as goal
 

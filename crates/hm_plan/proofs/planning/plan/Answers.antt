@@ -6,7 +6,8 @@ use Rattle.hm_plan.proofs.Dense.{last_alone}
 use Rattle.hm_plan.proofs.Growing.{if_ok, of_planned}
 use Rattle.hm_plan.proofs.Lawful.{both, overlaps}
 use Rattle.hm_plan_laws.specs.Ends.{DecidedBy, EndsAs, IsGreedyAt, IsPlanEnd}
-use Rattle.hm_plan_laws.specs.Planned.{bare, bare_program, planned}
+use Rattle.hm_plan_laws.specs.Planned.{planned}
+use Rattle.hm_run.specs.Bare.{bare, bare_program}
 use Rattle.hm_run.specs.InOrder.{in_order}
 use Rattle.hm_handlers.specs.Runs.{run, shown_out, tick}
 use Rattle.hm_sched.specs.Schedule.{Sched, TickLine, older_letter, ticks_of}

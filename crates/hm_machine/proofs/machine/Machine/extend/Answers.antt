@@ -13,7 +13,7 @@ use Rattle.hm_machine.specs.Machines.{left_at, machine_view}
 use Rattle.hm_machine.specs.Shown.{Shown, run_of, run_with}
 use Rattle.hm_machine.specs.declared.machine.Machine.TheInside.{Inside}
 use Rattle.hm_mem.specs.Memory.{flash_at, memory_of}
-use Rattle.hm_plan_laws.specs.Planned.{bare}
+use Rattle.hm_run.specs.Bare.{bare}
 use Rattle.hm_run.specs.declared.Outcome.{Outcome}
 use Rattle.hm_sched.specs.Schedule.{TickLine, Sched, no_irq}
 use Rattle.hm_machine.proofs.machine.Machine.extend.Goals as goal
