@@ -319,7 +319,7 @@ fn may_be_interleaved(n: Register, d: QRegister, p: Below<4>, f: Bit) -> bool
     }
 }
 
-/// `vld2`, `vld4`, `vst2`, `vst4`
+/// `vld20`, `vld21`, `vld40`, `vld41`, `vld42`, `vld43`, `vst20`, `vst21`, `vst40`, `vst41`, `vst42` or `vst43`
 fn decode_v28(w: u32) -> Option<V28>
     ensures found { IfSome result (λ r. code_v28 r ≡ w) }
     ensures none { IfNone result ((r : V28) → code_v28 r ≡ w → ⊥) }
@@ -353,7 +353,8 @@ fn decode_v28(w: u32) -> Option<V28>
     })
 }
 
-/// The code of `vld2`, `vld4`, `vst2`, `vst4`, with the first halfword in bits 31 to 16.
+/// The code of `vld20`, `vld21`, `vld40`, `vld41`, `vld42`, `vld43`, `vst20`, `vst21`, `vst40`, `vst41`, `vst42` or `vst43`, with the
+/// first halfword in bits 31 to 16.
 pub fn encode_v28(r: &V28) -> u32
     ensures value { result ≡ code_v28 r.now }
 {

@@ -14,7 +14,7 @@ ghost use Rattle.hm_isa.specs.Code.{dot_base, extreme_base, code_sum, code_dot, 
 use hm_code_fields::{bit, bits, general, q_register, size_at};
 use hm_isa::{Below, Dot, Element, ExtremeName, LongDot, LongSum, Sum, V22, V23, Vector};
 
-/// `vaddv`
+/// `vaddv` or `vaddva`
 fn decode_sum(w: u32) -> Option<Sum>
     ensures found { IfSome result (λ r. code_sum r ≡ w) }
     ensures none { IfNone result ((r : Sum) → code_sum r ≡ w → ⊥) }
@@ -36,7 +36,7 @@ fn decode_sum(w: u32) -> Option<Sum>
     Some(Sum { u, z, l, a, m })
 }
 
-/// `vaddv`
+/// `vaddv` or `vaddva`
 fn encode_sum(r: &Sum) -> u32
     ensures value { result ≡ code_sum r.now }
 {
@@ -72,7 +72,7 @@ pub fn base_of_dot(size: Element) -> u32
     }
 }
 
-/// `vmladav`
+/// `vmladav` or `vmladava`
 fn decode_dot(w: u32) -> Option<Dot>
     ensures found { IfSome result (λ r. code_dot r ≡ w) }
     ensures none { IfNone result ((r : Dot) → code_dot r ≡ w → ⊥) }
@@ -95,7 +95,7 @@ fn decode_dot(w: u32) -> Option<Dot>
     })
 }
 
-/// `vmladav`
+/// `vmladav` or `vmladava`
 fn encode_dot(r: &Dot) -> u32
     ensures value { result ≡ code_dot r.now }
 {
@@ -107,7 +107,7 @@ fn encode_dot(r: &Dot) -> u32
         + (r.m.get() << 1)
 }
 
-/// `vaddlv`
+/// `vaddlv` or `vaddlva`
 fn decode_long_sum(w: u32) -> Option<LongSum>
     ensures found { IfSome result (λ r. code_long_sum r ≡ w) }
     ensures none { IfNone result ((r : LongSum) → code_long_sum r ≡ w → ⊥) }
@@ -129,7 +129,7 @@ fn decode_long_sum(w: u32) -> Option<LongSum>
     Some(LongSum { u, h, l, a, m })
 }
 
-/// `vaddlv`
+/// `vaddlv` or `vaddlva`
 fn encode_long_sum(r: &LongSum) -> u32
     ensures value { result ≡ code_long_sum r.now }
 {
@@ -141,7 +141,7 @@ fn encode_long_sum(r: &LongSum) -> u32
         + (r.m.get() << 1)
 }
 
-/// `vmlaldav`
+/// `vmlaldav` or `vmlaldava`
 fn decode_long_dot(w: u32) -> Option<LongDot>
     ensures found { IfSome result (λ r. code_long_dot r ≡ w) }
     ensures none { IfNone result ((r : LongDot) → code_long_dot r ≡ w → ⊥) }
@@ -175,7 +175,7 @@ fn decode_long_dot(w: u32) -> Option<LongDot>
     })
 }
 
-/// `vmlaldav`
+/// `vmlaldav` or `vmlaldava`
 fn encode_long_dot(r: &LongDot) -> u32
     ensures value { result ≡ code_long_dot r.now }
 {
@@ -209,7 +209,7 @@ fn decode_v22(w: u32) -> Option<V22>
     None
 }
 
-/// The code of `vaddv`, `vmladav`, `vaddlv`, `vmlaldav`, with the first halfword in bits 31 to 16.
+/// The code of `vaddv`, `vaddva`, `vmladav`, `vmladava`, `vaddlv`, `vaddlva`, `vmlaldav` or `vmlaldava`, with the first halfword in bits 31 to 16.
 pub fn encode_v22(r: &V22) -> u32
     ensures value { result ≡ code_v22 r.now }
 {

@@ -367,7 +367,7 @@ pub fn base_of_narrowing(name: NarrowingName) -> u32
     }
 }
 
-/// `vmovn`, `vqmovn`, `vqmovun`
+/// `vmovnb`, `vmovnt`, `vqmovnb`, `vqmovnt`, `vqmovunb` or `vqmovunt`
 fn decode_v16(w: u32) -> Option<V16>
     ensures found { IfSome result (λ r. code_v16 r ≡ w) }
     ensures none { IfNone result ((r : V16) → code_v16 r ≡ w → ⊥) }
@@ -382,7 +382,7 @@ fn decode_v16(w: u32) -> Option<V16>
     Some(V16 { name, z, t, d, m })
 }
 
-/// The code of `vmovn`, `vqmovn`, `vqmovun`, with the first halfword in bits 31 to 16.
+/// The code of `vmovnb`, `vmovnt`, `vqmovnb`, `vqmovnt`, `vqmovunb` or `vqmovunt`, with the first halfword in bits 31 to 16.
 pub fn encode_v16(r: &V16) -> u32
     ensures value { result ≡ code_v16 r.now }
 {

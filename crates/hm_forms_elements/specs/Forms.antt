@@ -107,14 +107,15 @@ gives_unsigned narrowing.Unsigned = true
 gives_unsigned narrowing.ToUnsigned = true
 gives_unsigned n = false
 
--- V16: the narrow element of a wide one that VMOVN gives, or that VQMOVN and VQMOVUN give, brought into its range
+-- V16: the narrow element of a wide one that VMOVNB and VMOVNT give, or that VQMOVNB, VQMOVNT, VQMOVUNB and VQMOVUNT give, brought into its range
 -- (DDI0553, "VMOVN", "VQMOVN" and "VQMOVUN")
 abbrev pub narrowed : NarrowingName → Size → Size → ℕ → ℕ
 narrowed f wide small x =
     let v = lane_value (takes_unsigned f) wide x in
     cut small (cond (narrowing_saturates f) (clamped (gives_unsigned f) small v) v)
 
--- V16: whether a wide element of VMOVN, VQMOVN or VQMOVUN is outside the range of the narrow one (DDI0553, "VMOVN", "VQMOVN" and "VQMOVUN")
+-- V16: whether a wide element of VMOVNB, VMOVNT, VQMOVNB, VQMOVNT, VQMOVUNB or VQMOVUNT is outside the range of the narrow one
+-- (DDI0553, "VMOVN", "VQMOVN" and "VQMOVUN")
 abbrev pub narrowing_outside : NarrowingName → Size → Size → ℕ → Bool
 narrowing_outside f wide small x = is_outside (gives_unsigned f) small (lane_value (takes_unsigned f) wide x)
 
@@ -129,7 +130,8 @@ narrowing_bytes true true f (a ∷ b ∷ c ∷ d ∷ l) (p ∷ q ∷ r ∷ s ∷
     let n = narrowed f Word Half (p + 256 * q + 65536 * r + 16777216 * s) in a ∷ b ∷ n % 256 ∷ n / 256 ∷ []
 narrowing_bytes z t f _ _ = []
 
--- V16: where wide elements of VMOVN, VQMOVN or VQMOVUN are outside the range of the narrow ones, at the lowest byte of each narrow one
+-- V16: where wide elements of VMOVNB, VMOVNT, VQMOVNB, VQMOVNT, VQMOVUNB or VQMOVUNT are outside the range of the narrow ones,
+-- at the lowest byte of each narrow one
 -- (DDI0553, "VMOVN", "VQMOVN" and "VQMOVUN")
 abbrev pub narrowing_tests : Bool → Bool → NarrowingName → List ℕ → List Bool
 narrowing_tests false false f (p ∷ q ∷ r ∷ s ∷ v) =
@@ -146,7 +148,8 @@ abbrev pub narrowing_new : V16 → List ℕ → ℕ
 narrowing_new r (old ∷ x ∷ vs) = word_of (narrowing_bytes (nat_eq r.z.value 1) (nat_eq r.t.value 1) r.name (bytes_of old) (bytes_of x))
 narrowing_new r _ = 0
 
--- V16: whether VQMOVN or VQMOVUN sets QC: whether an active narrow element of a word saturates (DDI0553, "VQMOVN" and "VQMOVUN")
+-- V16: whether VQMOVNB, VQMOVNT, VQMOVUNB or VQMOVUNT sets QC: whether an active narrow element of a word saturates
+-- (DDI0553, "VQMOVN" and "VQMOVUN")
 abbrev pub narrowing_mark : V16 → List Bool → List ℕ → Bool
 narrowing_mark r active (old ∷ x ∷ vs) = any_both active (narrowing_tests (nat_eq r.z.value 1) (nat_eq r.t.value 1) r.name (bytes_of x))
 narrowing_mark r active _ = false

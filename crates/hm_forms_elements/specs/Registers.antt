@@ -78,12 +78,14 @@ narrowed_result r wide small s =
 abbrev pub narrowing_result : V16 → State → List ℕ
 narrowing_result r s = cond (nat_eq r.z.value 1) (narrowed_result r Word Half s) (narrowed_result r Half Byte s)
 
--- V16: where wide elements of the operand of VMOVN, VQMOVN or VQMOVUN are outside the range of narrow ones, at the lowest byte of each narrow one
+-- V16: where wide elements of the operand of VMOVNB, VMOVNT, VQMOVNB, VQMOVNT, VQMOVUNB or VQMOVUNT are outside the range of narrow ones,
+-- at the lowest byte of each narrow one
 -- (DDI0553, "VMOVN", "VQMOVN" and "VQMOVUN")
 abbrev pub narrowed_tests : V16 → Size → Size → State → List Bool
 narrowed_tests r wide small s = spread small (placed_tests (nat_eq r.t.value 1) (map (narrowing_outside r.name wide small) (elements wide r.m.value s)))
 
--- V16: where wide elements of VMOVN, VQMOVN or VQMOVUN, of the size that the row says, are outside the range of narrow ones
+-- V16: where wide elements of VMOVNB, VMOVNT, VQMOVNB, VQMOVNT, VQMOVUNB or VQMOVUNT, of the size that the row says, are outside the
+-- range of narrow ones
 -- (DDI0553, "VMOVN", "VQMOVN" and "VQMOVUN")
 abbrev pub narrowing_saturated : V16 → State → List Bool
 narrowing_saturated r s = cond (nat_eq r.z.value 1) (narrowed_tests r Word Half s) (narrowed_tests r Half Byte s)

@@ -735,29 +735,30 @@ code_v21 (v21.Block r) = code_block r
 code_v21 (v21.Select r) = code_select r
 code_v21 (v21.Tail r) = code_tail r
 
--- V22: VADDV (DDI0553, "VADDV")
+-- V22: VADDV and VADDVA (DDI0553, "VADDV")
 abbrev pub code_sum : Sum → ℕ
 code_sum r = 0xeef10f00 + r.u.value ↑ 28 + r.z.value ↑ 18 + r.l.value ↑ 13 + r.a.value ↑ 5 + r.m.value ↑ 1
 
--- V22: the code of VMLADAV for each size of signed elements, its registers and accumulate bit 0 (DDI0553, "VMLADAV")
+-- V22: the code of VMLADAV and VMLADAVA for each size of signed elements, their registers and accumulate bit 0 (DDI0553, "VMLADAV")
 abbrev pub dot_base : Element → ℕ
 dot_base element.Bytes = 0xeef00f00
 dot_base element.Halves = 0xeef00e00
 dot_base element.Words = 0xeef10e00
 
--- V22: VMLADAV (DDI0553, "VMLADAV")
+-- V22: VMLADAV and VMLADAVA (DDI0553, "VMLADAV")
 abbrev pub code_dot : Dot → ℕ
 code_dot r = dot_base r.size + r.u.value ↑ 28 + r.n.value ↑ 17 + r.l.value ↑ 13 + r.a.value ↑ 5 + r.m.value ↑ 1
 
--- V22: VADDLV (DDI0553, "VADDLV")
+-- V22: VADDLV and VADDLVA (DDI0553, "VADDLV")
 abbrev pub code_long_sum : LongSum → ℕ
 code_long_sum r = 0xee890f00 + r.u.value ↑ 28 + r.h.value ↑ 20 + r.l.value ↑ 13 + r.a.value ↑ 5 + r.m.value ↑ 1
 
--- V22: VMLALDAV (DDI0553, "VMLALDAV")
+-- V22: VMLALDAV and VMLALDAVA (DDI0553, "VMLALDAV")
 abbrev pub code_long_dot : LongDot → ℕ
 code_long_dot r = 0xee800e00 + r.u.value ↑ 28 + r.h.value ↑ 20 + r.n.value ↑ 17 + r.s.value ↑ 16 + r.l.value ↑ 13 + r.a.value ↑ 5 + r.m.value ↑ 1
 
--- V22: VADDV, VMLADAV, VADDLV and VMLALDAV (DDI0553, "VADDV", "VMLADAV", "VADDLV" and "VMLALDAV")
+-- V22: VADDV, VADDVA, VMLADAV, VMLADAVA, VADDLV, VADDLVA, VMLALDAV and VMLALDAVA
+-- (DDI0553, "VADDV", "VMLADAV", "VADDLV" and "VMLALDAV")
 abbrev pub code_v22 : V22 → ℕ
 code_v22 (v22.Sum r) = code_sum r
 code_v22 (v22.Dot r) = code_dot r

@@ -8,7 +8,7 @@ ghost use Rattle.hm_isa.specs.Rules.{has_size, is_reversed, is_shifted_by, is_si
 use crate::fields::{Below, Bit, ElementSize, QRegister, Register};
 use crate::words::zero_as_32;
 
-/// The size of the elements of V18, `vdup`, and of a sum of products of V22, `vmladav`, where it tells codes apart as a name does:
+/// The size of the elements of V18, `vdup`, and of a sum of products of V22, `vmladav` and `vmladava`, where it tells codes apart as a name does:
 /// DDI0553, "VDUP" and "VMLADAV".
 #[derive(Clone, Copy)]
 pub enum Element {

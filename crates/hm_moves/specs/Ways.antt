@@ -54,11 +54,13 @@ element a word lane = record { addr = a % 2 ^ 32; word = word; lane = lane }
 abbrev pub start : Bool → ℕ → ℕ → ℕ
 start before offset base = cond before ((base + offset) % 2 ^ 32) base
 
--- V28: how many registers take elements in turn: four by VLD4 and VST4, two by VLD2 and VST2 (DDI0553, "VLD2", "VLD4", "VST2" and "VST4")
+-- V28: how many registers take elements in turn: four by VLD40, VLD41, VLD42, VLD43, VST40, VST41, VST42 and VST43, two by VLD20, VLD21, VST20 and
+-- VST21 (DDI0553, "VLD2", "VLD4", "VST2" and "VST4")
 abbrev pub registers : Bool → ℕ
 registers four = cond four 4 2
 
--- V28: the number in the stream of the first element of beat b of VLD2, VLD4, VST2 or VST4: beat b of a part moves word 4 * part + b of memory
+-- V28: the number in the stream of the first element of beat b of VLD20, VLD21, VLD40, VLD41, VLD42, VLD43, VST20, VST21, VST40, VST41, VST42 or VST43:
+-- beat b of a part moves word 4 * part + b of memory
 -- (DDI0553, "VLD2", "VLD4", "VST2" and "VST4")
 abbrev pub stream : ℕ → Size → ℕ → ℕ
 stream part z b = per_word z * (4 * part + b)

@@ -42,12 +42,14 @@ fault_of store len (p ∷ ps) (a ∷ addrs) = option_or (cond p (fault_after (fa
 fault_of store len _ _ = None
 
 -- A PART OF A REGISTER
--- V28: each register gives or takes one word, this one, by VLD4 and VST4, and two words, from this one on, by VLD2 and VST2
+-- V28: each register gives or takes one word, this one, by VLD40, VLD41, VLD42, VLD43, VST40, VST41, VST42 and VST43, and two words, from this one on,
+-- by VLD20, VLD21, VST20 and VST21
 -- (DDI0553, "VLD2", "VLD4", "VST2" and "VST4")
 abbrev pub part_word : Bool → ℕ → ℕ
 part_word four part = cond four part (2 * part)
 
--- V28: the bytes of a register that belong to a part: one word of each of the four registers of VLD4 and VST4, two words of each of the two of VLD2 and VST2
+-- V28: the bytes of a register that belong to a part: one word of each of the four registers of VLD40, VLD41, VLD42, VLD43, VST40, VST41, VST42 and
+-- VST43, two words of each of the two of VLD20, VLD21, VST20 and VST21
 -- (DDI0553, "VLD2", "VLD4", "VST2" and "VST4")
 abbrev pub part_at : Bool → ℕ → ℕ → State → List ℕ
 part_at four part q s =
@@ -68,7 +70,8 @@ abbrev pub loaded_elements : (ℕ → ℕ) → List Bool → List ℕ → List �
 loaded_elements f (p ∷ ps) (a ∷ addrs) = cond p (f a) 0 ∷ loaded_elements f ps addrs
 loaded_elements f _ _ = []
 
--- V28: of all elements those from number i on that registers which take them in turn leave to one: every second by VLD2, every fourth by VLD4
+-- V28: of all elements those from number i on that registers which take them in turn leave to one: every second by VLD20 and VLD21,
+-- every fourth by VLD40, VLD41, VLD42 and VLD43
 -- (DDI0553, "VLD2" and "VLD4")
 abbrev pub taken_by : ℕ → ℕ → ℕ → List ℕ → List ℕ
 taken_by all every i xs = each_from (λ e. get_or xs (every * e + i) 0) 0 (all / every)

@@ -182,11 +182,11 @@ given_sized z second third a b c e g = given_all false false z false second thir
 abbrev pub given : ℕ → ℕ → ℕ → ℕ → ℕ → Operands
 given = given_sized 0 false false
 
--- with a number for the third
+-- of no size, with a number for the third
 abbrev pub third_numbered : ℕ → ℕ → ℕ → ℕ → ℕ → Operands
 third_numbered = given_sized 0 false true
 
--- with one for the second
+-- of no size, with a number for the second
 abbrev pub second_numbered : ℕ → ℕ → ℕ → ℕ → ℕ → Operands
 second_numbered = given_sized 0 true false
 
@@ -378,7 +378,7 @@ pub record ArithCodes (s : List ℕ) (o : Operands) (code : Option ℕ) : Type 0
   pub t20 : IsCodeOf wide.T20 s o code
   pub memory : MemoryCodes s o code
 
--- T3 to T7, and the codes above: ADDW, SUBW, MOVW, MOVT, SSAT, USAT, SBFX, UBFX, BFI and BFC
+-- T3 to T7, and the codes above: ADDW, SUBW, ADR, MOVW, MOVT, SSAT, USAT, SBFX, UBFX, BFI and BFC
 -- (DDI0553, "ADD (immediate)", "ADD (SP plus immediate)", "SUB (immediate)", "SUB (SP minus immediate)", "ADR", "MOV (immediate)", "MOVT", "SSAT",
 -- "USAT", "SBFX", "UBFX", "BFI" and "BFC")
 pub record NumberCodes (s : List ℕ) (o : Operands) (code : Option ℕ) : Type 0 where

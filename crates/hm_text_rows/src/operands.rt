@@ -14,7 +14,7 @@ pub fn is(word: &[u8], name: &str) -> bool
     word == name.as_bytes()
 }
 
-/// The condition of a branch: what stands behind the `b` of its first word, `beq` to `ble`.
+/// The condition of a branch: what stands behind the `b` of its first word, as in `beq`.
 pub fn branch_condition_in(word: &[u8]) -> Option<u32>
     ensures value { result ≡ branch_condition_in word.now }
 {
