@@ -12,7 +12,7 @@ use Rattle.hm_host.specs.Host.{Becomes, Call, Counts, FileMap, HostState, Made, 
 use Rattle.hm_host.specs.declared.host.HostErr.{HostErr}
 use Rattle.hm_host.specs.declared.host.HostErr.TheVariants.{Failed, OutOfMemory, TooLarge}
 use Rattle.hm_shake.specs.declared.filing.Written.{Written}
-use Rattle.helium_shake.specs.Effects.{Carries, Effect, File, IsDone, WritesFiles, calls_for, file_of, status_for, with_files, write_call}
+use Rattle.helium_shake.specs.Effects.{Carries, Effect, File, WritesFiles, calls_for, file_of, status_for, with_files, write_call}
 
 -- ---- files
 
@@ -103,12 +103,6 @@ pub cut_print_calls : (e : HostErr) (x : Effect) (old mid new : Option (List Mad
 cut_print_calls Failed x old mid new P Q before prints h = made_after (map write_call x.files) (print x.text ∷ []) old mid new to_fault before h
 cut_print_calls TooLarge x old mid new P Q before prints h = absurd prints
 cut_print_calls OutOfMemory x old mid new P Q before prints h = made_after (map write_call x.files) (print x.text ∷ []) old mid new to_memory before h
-
--- all is done
-pub all_done : (x : Effect) (old new : HostState) (s : Status) → IsComplete s → IsDone x old new s → Carries x old new s
-all_done x old new HostFault complete h = absurd complete
-all_done x old new NoMemory complete h = absurd complete
-all_done x old new s complete h = h
 
 pub all_calls : (x : Effect) (old mid new : Option (List Made)) (s : Status) → IsComplete s → Becomes (with_calls (map write_call x.files)) old mid
     → Becomes (with_calls (print x.text ∷ [])) mid new → MakesCalls (calls_for x) old new (way_of s)

@@ -11,7 +11,6 @@ use Rattle.hm_asm.specs.declared.errors.AsmErr.TheVariants as assembly
 use Rattle.hm_base.specs.declared.errors.ImageErr.{ImageErr}
 use Rattle.hm_base.specs.declared.errors.ImageErr.TheVariants as refusals
 use Rattle.hm_codes.specs.Listing.{Listing}
-use Rattle.hm_handlers.specs.Runs.{shown_out}
 use Rattle.hm_plan_laws.specs.Planned.{planned}
 use Rattle.hm_sched.specs.Printed.{file_text}
 use Rattle.hm_sched.specs.Schedule.{Sched}
@@ -20,7 +19,7 @@ use Rattle.hm_commands.specs.declared.work.Refusal.{Refusal}
 use Rattle.hm_commands.specs.declared.work.Refusal.TheVariants.{Image, Reset}
 use Rattle.hm_commands.specs.declared.work.Stop.{Stop}
 use Rattle.hm_commands.specs.declared.work.Stop.TheVariants.{NoMemory}
-use Rattle.hm_commands.specs.Commands.{IsAsmOutcome, IsDisOutcome, reported, unless_refused, plan_outcome, run_outcome, seq_outcome}
+use Rattle.hm_commands.specs.Commands.{IsAsmOutcome, IsDisOutcome, unless_refused, plan_outcome, run_outcome, seq_outcome}
 use Rattle.hm_commands.specs.Run.{reset_refusal}
 use Rattle.hm_commands.specs.Work.{Outcome, finishes, refuses, Gives, GivesOne, image_stop, source_stop}
 
@@ -64,14 +63,6 @@ pub asm_source_refused : (source out : List ℕ) (e : AsmErr) (stop : Stop) → 
 asm_source_refused source out (assembly.Line k c kind) stop cause is =
     gives_at (IsAsmOutcome source out) stop (source_stop (assembly.Line k c kind)) is (Err (assembly.Line k c kind), cause, refl)
 asm_source_refused source out assembly.OutOfMemory stop cause is = gives_at (IsAsmOutcome source out) stop NoMemory is tt
-
--- a reset, where both are read
-run_with : (listings : List Segment → Listing) (image : Result (List Segment) ImageErr) (i : List Segment) (read : Result Sched SchedErr) (s : Sched)
-    (memory : List ℕ) → image ≡ Ok i → read ≡ Ok s
-    → run_outcome listings image read memory ≡ unless_refused (reset_refusal i) (reported (shown_out (listings i) i s) memory)
-run_with listings image i read s memory at is =
-    ap (λ (x : Result (List Segment) ImageErr). run_outcome listings x read memory) at
-    ∙ ap (λ (x : Result Sched SchedErr). run_outcome listings (Ok i) x memory) is
 
 -- ---- runs
 

@@ -23,7 +23,7 @@ use Rattle.hm_exc.specs.declared.types.Broken.{Broken}
 use Rattle.hm_handlers.proofs.Soundness.{step_sound}
 use Rattle.hm_handlers.specs.Nested.{Ended, Interrupted, NestedStep, Offends, around_under, handles, returned, step, step_under, uncounted, went, with_acts}
 use Rattle.hm_handlers.specs.Runs.{stacked_of}
-use Rattle.hm_handlers.specs.Registers.{cell_back, registers_in, registers_of, restored}
+use Rattle.hm_handlers.specs.Registers.{cell_back, registers_of, restored}
 use Rattle.hm_handlers.specs.Sound.{AreStacked, IsSound, IsStacked}
 use Rattle.hm_isa.specs.declared.Instr.{Instr}
 use Rattle.hm_isa.specs.declared.Instr.TheVariants as instr
@@ -47,10 +47,6 @@ use Rattle.hm_window.specs.declared.rule.Window.{Window}
 use Rattle.hm_window.specs.Positions.{may_end}
 
 -- REGISTERS. Those of a state that is made of registers, and those that are given back.
-pub registers_are : (r : Regs) (m : Memory) (output : List ℕ) → registers_in (state_of r m output) ≡ registers_of r
-unfolding state_of
-registers_are r m output = refl
-
 cell_is : (r q : Regs) (actor : Actor) (m : Memory) (output : List ℕ) (c : Cell)
     → cell_back (registers_of r) (state_of q m output) c ≡ cell_of r (with_actor actor m) c
 unfolding state_of

@@ -1,7 +1,7 @@
 -- What is tried of a machine, and undone.
 use Rattle.std.specs.Prelude.{eqb}
 use Rattle.std.specs.Result.{is_ok}
-use Rattle.std.proofs.Common.{◌≡◌, ℕ, zero, suc, ◌+◌, ◌-◌, ◌<◌, ◌≤◌, ◌%◌, ◌^◌, ◌==◌, ◌&&◌, ◌||◌, arith, ap, refl, sym, ◌∙◌, subst, Bool, false, List, []}
+use Rattle.std.proofs.Common.{◌≡◌, ℕ, zero, suc, ◌+◌, ◌-◌, ◌<◌, ◌≤◌, ◌%◌, ◌^◌, ◌||◌, arith, ap, refl, sym, ◌∙◌, subst, Bool, false, List, []}
 use Rattle.std.proofs.Common.{◌∷◌, ◌++◌, drop, take, slice_index_or, length, Option, Some, None, Result, Ok, Err}
 use Rattle.std.proofs.lemmas.List.{append-nil, take_rest}
 use Rattle.std.proofs.lemmas.Bool.{or_from, or_parts}
@@ -19,7 +19,6 @@ use Rattle.hm_isa.specs.declared.Vector.{Vector}
 use Rattle.hm_mem.specs.Memory.{Around, Memory}
 use Rattle.hm_mem.specs.Seen.{IsSameElsewhere}
 use Rattle.hm_order.specs.Beats.{then}
-use Rattle.hm_order.specs.Machine as order
 use Rattle.hm_order.specs.Machine.{Config, did, done, older_of, settle, younger, younger_of}
 use Rattle.hm_in_order.proofs.Laws.{caused_ok}
 use Rattle.hm_regs.specs.declared.Regs.{Regs}
@@ -181,9 +180,3 @@ stored v r m output t p beat same =
       devices = ap (λ (x : Rest). x.devices) (rest_stays (vector_tree v m.around 2) s (state_of t p output) did);
       elsewhere = same;
     }
-
-and_false : (b : Bool) → false ≡ (b && false)
-and_false b = grind arith
-
-pub not_first : (M : Program) (c : Config State) → (c.b == 0) ≡ false → false ≡ is_ready M c
-not_first M c e = and_false (c.a == 2) ∙ ap (λ (b : Bool). (c.a == 2) && (b && goes_on (then (order.older M c) (younger M)))) (sym e)

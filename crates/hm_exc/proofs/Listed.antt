@@ -1,7 +1,7 @@
 -- The activations, the newest first.
-use Rattle.std.proofs.Common.{suc, subst, ◌≡◌, ◌+◌, ◌-◌, ◌<◌, List, [], ◌∷◌, ◌++◌, length, take, get_or, arith, sym, ◌∙◌, ap}
+use Rattle.std.proofs.Common.{◌≡◌, ◌+◌, ◌-◌, ◌<◌, List, [], ◌∷◌, ◌++◌, length, take, get_or, arith, sym, ◌∙◌, ap}
 use Rattle.std.specs.Prelude.{reverse}
-use Rattle.std.proofs.lemmas.List.{reverse-append, take_more, take_all, get_or_default, length-reverse}
+use Rattle.std.proofs.lemmas.List.{reverse-append, take_more, take_all, get_or_default}
 
 module _ {A : Type 0} (xs : List A) (some : 0 < length xs) where
   pub last_first : (v : A) → v ≡ get_or xs (length xs - 1) v → reverse xs ≡ v ∷ reverse (take (length xs - 1) xs)
@@ -19,14 +19,3 @@ module _ {A : Type 0} (xs : List A) (some : 0 < length xs) where
       let f = last_first (get_or xs (length xs - 1) x) l in
       let g : reverse (take (length xs - 1) xs) ≡ rest = cc in
       ap reverse e ∙ g
-
--- the newest of a list is in it
-pub some_newest : {A : Type 0} (xs : List A) (x : A) (rest : List A) → reverse xs ≡ x ∷ rest → 0 < length xs
-some_newest xs x rest h =
-    let e : length (reverse xs) ≡ suc (length rest) = ap length h in
-    let f : length (reverse xs) ≡ length xs = length-reverse xs in
-    omega arith
-
--- what is known of the one that was put there last
-pub newest-is : {A : Type 0} (P : A → Type 0) (x y : A) (ys zs : List A) (all : List A) → all ≡ x ∷ ys → P x → all ≡ y ∷ zs → P y
-newest-is P x y ys zs all e p f = let s : x ≡ y = cc in subst P s p

@@ -1,6 +1,6 @@
 -- xPSR: its fields, and the position and the IT byte in it.
-use Rattle.std.proofs.Common.{◌≡◌, ℕ, ◌+◌, ◌*◌, ◌/◌, ◌%◌, ◌^◌, ◌<◌, ◌⊎◌, Bool, true, false, arith, refl, sym, ◌∙◌, ap, subst, inl, inr, cond, eqb-true}
-use Rattle.std.specs.Prelude.{◌&&◌, ◌==◌, if◌then◌else◌, Option, Some, None}
+use Rattle.std.proofs.Common.{◌≡◌, ℕ, ◌+◌, ◌*◌, ◌/◌, ◌%◌, ◌^◌, ◌<◌, ◌⊎◌, Bool, true, false, arith, refl, sym, ◌∙◌, ap, subst, inl, inr, eqb-true}
+use Rattle.std.specs.Prelude.{◌&&◌, ◌==◌, if◌then◌else◌, Option, Some}
 use Rattle.std.proofs.lemmas.Bool.Decides.{nat_tests}
 use Rattle.std.specs.Option.{unwrap_or}
 use Rattle.hm_base.specs.Bits.{field}
@@ -11,30 +11,7 @@ use Rattle.hm_regs.specs.declared.Regs.{Regs}
 use Rattle.hm_window.specs.Positions.{may_end, window_of}
 use Rattle.hm_window.specs.declared.rule.Window.{Window}
 
--- ECI
-inner : (v w : Window) → Some v ≡ Some w → v ≡ w
-inner v w h = cc
-
-pub eci-is : (x : ℕ) (w : Window) → window_of x ≡ Some w → x ≡ eci_of w
-eci-is x w = go (x == 0) (x == 1) (x == 2) (x == 4) (x == 5) refl refl refl refl refl
-  where
-    at : (k a b : ℕ) → (x == k) ≡ true → k ≡ eci_of (record { a = a; b = b }) → Some (record { a = a; b = b }) ≡ Some w → x ≡ eci_of w
-    at k a b t e h = eqb-true x k t ∙ e ∙ ap eci_of (inner (record { a = a; b = b }) w h)
-
-    go : (p q r s t : Bool) → (x == 0) ≡ p → (x == 1) ≡ q → (x == 2) ≡ r → (x == 4) ≡ s → (x == 5) ≡ t
-        → cond p (Some (record { a = 0; b = 0 }))
-        (cond q (Some (record { a = 1; b = 0 }))
-        (cond r (Some (record { a = 2; b = 0 })) (cond s (Some (record { a = 3; b = 0 })) (cond t (Some (record { a = 3; b = 1 })) None)))) ≡ Some w
-        → x ≡ eci_of w
-    go true q r s t a b c d e h = at 0 0 0 a refl h
-    go false true r s t a b c d e h = at 1 1 0 b refl h
-    go false false true s t a b c d e h = at 2 2 0 c refl h
-    go false false false true t a b c d e h = at 4 3 0 d refl h
-    go false false false false true a b c d e h = at 5 3 1 e refl h
-    go false false false false false a b c d e h = cc
-
--- the positions at which a tick may end, one by one
-
+-- ECI: the positions at which a tick may end, one by one
 four : (a : ℕ) → a < 4 → (a ≡ 0) ⊎ ((a ≡ 1) ⊎ ((a ≡ 2) ⊎ (a ≡ 3)))
 four a h = grind arith
 

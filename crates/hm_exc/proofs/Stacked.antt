@@ -80,9 +80,6 @@ same_word : (f g : ℕ → ℕ) (a b : ℕ) → f a ≡ g b → f (a + 1) ≡ g 
 same_word f g a b p q r s = λ j. p j + 0x100 * q j + 0x10000 * r j + 0x1000000 * s j
 
 module _ (x : Activation) (h : FitsEntry x) (range : InRange x.regs) (pc_fits : x.regs.pc < 2 ^ 32) (it_fits : x.regs.it < 256) where
-  at : Window
-  at = window_in x
-
   size_is : frame_size x.long ≡ frame_size x.regs.fpca
   size_is = ap frame_size h.form
 

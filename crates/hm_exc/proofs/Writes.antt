@@ -1,5 +1,5 @@
 -- The memory while a frame is written, and after an entry.
-use Rattle.std.proofs.Common.{◌≡◌, ◌≢◌, ℕ, ◌+◌, ◌-◌, ◌<◌, Bool, true, false, get_or, arith, refl, sym, ◌∙◌, ap}
+use Rattle.std.proofs.Common.{◌≡◌, ◌≢◌, ℕ, ◌+◌, ◌-◌, ◌<◌, Bool, true, false, get_or, arith, refl, ◌∙◌, ap}
 use Rattle.std.specs.Prelude.{if◌then◌else◌, ◌&&◌, nat_eq}
 use Rattle.std.proofs.lemmas.Bool.Decides.{nat_tests}
 use Rattle.hm_exc.specs.Entry.{entered_memory}
@@ -12,18 +12,6 @@ use Rattle.hm_mem.specs.Memory.{Memory}
 use Rattle.hm_mem.specs.Seen.{Seen, after_store, covers, lies_in_sram, seen, with_actor, with_dev}
 use Rattle.hm_mem.specs.declared.Actor.{Actor}
 use Rattle.hm_sys.specs.Exceptions.{accepted}
-
-none_covered : (a b : ℕ) → covers a 0 b ≡ false
-none_covered a b = grind (arith, nat_tests)
-
-at_false : {A : Type 0} (t : Bool) (x y : A) → t ≡ false → (if t then x else y) ≡ y
-at_false true x y e = absurd (cc)
-at_false false x y e = refl
-
-pub nothing_written : (x : Activation) (s : Seen) → s ≡ written x 0 s
-nothing_written x s = one_seen s (written x 0 s)
-    (λ a. sym (at_false (covers x.frame 0 a) (get_or x.bytes (a - x.frame) 0) (s.byte a) (none_covered x.frame a)))
-    (λ a. sym (at_false (covers x.frame 0 a) true (s.taint a) (none_covered x.frame a))) refl
 
 devices_of : {A : Type 0} (q : Bool) (y z : A) → q ≡ true → (if q then y else z) ≡ y
 devices_of true y z e = refl

@@ -93,9 +93,6 @@ digit_again d lt = elim (cases_Bool (ltb d 10)) [
   | inr e ↦ ap (λ (t : Bool). digit_in (cond t (48 + d) (55 + d))) e ∙ high_again d (ltb-false d 10 e) lt
 ]
 
-byte_of : (high low : Option ℕ) → Option ℕ
-byte_of high low = option_and_then (λ (h : ℕ). option_map (λ (l : ℕ). 16 * h + l) low) high
-
 byte_again : (b : ℕ) → b < 256 → byte_in (digit (b / 16)) (digit (b % 16)) ≡ Some b
 byte_again b lt =
     ap (λ (o : Option ℕ). option_and_then (λ (h : ℕ). option_map (λ (l : ℕ). 16 * h + l) (digit_in (digit (b % 16)))) o) (digit_again (b / 16) (omega arith))

@@ -31,9 +31,6 @@ given_in s ss blank a low high = rw (covered s a low high) refl
 given_out : (s : Segment) (ss : List Segment) (blank a : ℕ) → covers s a ≡ false → given (s ∷ ss) blank a ≡ given ss blank a
 given_out s ss blank a out = rw out refl
 
-index_is : (bytes : List ℕ) (k : ℕ) → slice_index bytes k ≡ get_or bytes k 0
-index_is bytes k = refl
-
 -- two segments that touch, and the one that they make
 touching : (b c : ℕ) (xs ys : List ℕ) (ts : List Segment) (blank a : ℕ) → c ≡ b + length xs
     → given (segment b (xs ++ ys) ∷ ts) blank a ≡ given (segment b xs ∷ segment c ys ∷ ts) blank a

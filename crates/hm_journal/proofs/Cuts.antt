@@ -1,25 +1,9 @@
 -- A text without the first of its lines that is the system's, as a loop finds it.
-use Rattle.std.proofs.Common.{◌≡◌, ℕ, zero, suc, ◌+◌, ◌-◌, ◌<◌, ◌==◌, Bool, true, false, ◌&&◌, nat_eq, arith, ap, refl, sym, ◌∙◌, List, [], ◌∷◌, ◌++◌, drop}
-use Rattle.std.proofs.Common.{get_or, length, take, add-one}
+use Rattle.std.proofs.Common.{◌≡◌, ℕ, ◌-◌, ◌==◌, Bool, true, false, arith, ap, refl, sym, ◌∙◌, List, [], ◌∷◌, drop}
+use Rattle.std.proofs.Common.{length, take}
 use Rattle.std.proofs.lemmas.List.{take_rest}
 use Rattle.hm_text_base.specs.Spans.{span}
-use Rattle.hm_journal.specs.Formats.{behind_line, is_system, without}
-
--- where none begins, the byte there stays
-pub goes_on : (begins : Bool) (xs : List ℕ) (at : ℕ) → at < length xs → (begins && is_system (drop at xs)) ≡ false
-    → take at xs ++ without begins (drop at xs) ≡ take (at + 1) xs ++ without (nat_eq (get_or xs at 0) 10) (drop (at + 1) xs)
-goes_on begins xs at less none = rw (add-one at) (next begins xs at less none)
-  where
-    next : (begins : Bool) (xs : List ℕ) (at : ℕ) → at < length xs → (begins && is_system (drop at xs)) ≡ false
-        → take at xs ++ without begins (drop at xs) ≡ take (suc at) xs ++ without (nat_eq (get_or xs at 0) 10) (drop (suc at) xs)
-    next begins [] at less none = absurd (omega (arith, less))
-    next begins (x ∷ xs) zero less none = rw none refl
-    next begins (x ∷ xs) (suc at) less none = ap (λ l. x ∷ l) (next begins xs at (omega (arith, less)) none)
-
--- where one begins, what stands behind it is left
-pub stops : (begins : Bool) (ys : List ℕ) → (begins && is_system ys) ≡ true → without begins ys ≡ behind_line ys
-stops begins [] here = refl
-stops begins (y ∷ ys) here = rw here refl
+use Rattle.hm_journal.specs.Formats.{behind_line, without}
 
 -- the first end of a line is the first byte 10
 pub behind_is : (bs : List ℕ) → behind_line bs ≡ drop 1 (span 10 bs).1

@@ -21,9 +21,6 @@ use Rattle.hm_journal.specs.Runs.{IsWithoutLine}
 abbrev Stays : Bool → Bool → List ℕ → Type 0
 Stays from to xs = (rest : List ℕ) → without from (xs ++ rest) ≡ xs ++ without to rest
 
-nothing : (at : Bool) → Stays at at []
-nothing at rest = refl
-
 chain : (from mid to : Bool) (xs ys : List ℕ) → Stays from mid xs → Stays mid to ys → Stays from to (xs ++ ys)
 chain from mid to xs ys first second rest =
     ap (without from) (append_assoc xs ys rest) ∙ first (ys ++ rest) ∙ ap (λ l. xs ++ l) (second rest) ∙ sym (append_assoc xs ys (without to rest))

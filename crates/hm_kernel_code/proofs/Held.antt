@@ -93,7 +93,3 @@ total t [] [] k = refl
 total t [] (i ∷ is) k = absurd k
 total t (x ∷ xs) [] k = absurd k
 total t (x ∷ xs) (i ∷ is) k = omega (arith, length-append (halfwords i) (all_halves is), item_width t x i k.0, total t xs is k.1)
-
-pub some_code : (at : ℕ → ℕ) (n : ℕ) (ls : List Line) → 0 < items_halves (lines_code at n ls)
-some_code at n [] = omega arith
-some_code at n (l ∷ ls) = omega (arith, items_append (line_code at n l) (lines_code at n ls), some_code at n ls)

@@ -35,9 +35,6 @@ use Rattle.hm_kernel_rows.proofs.Scalars.{InRegs, from_state}
 use Rattle.hm_kernel_rows.proofs.Steps.{at_address, branch_runs, ended, put_left, put_size, went_on}
 
 -- THE CONTEXT
-fresh : Regs → Regs
-fresh r = record r { fpca = true; vpr = 0; fpscr = 0x00040000 }
-
 fresh_size : (r : Regs) → value_at Ltp (record r { fpca = true; vpr = 0; fpscr = 0x00040000 }) ≡ 4
 unfolding field
 fresh_size r = refl

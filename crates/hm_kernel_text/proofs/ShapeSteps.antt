@@ -1,8 +1,8 @@
 -- What is open, as the code holds it: the innermost at the end.
-use Rattle.std.proofs.Common.{◌≡◌, ℕ, ◌+◌, ◌<◌, ◌≤◌, ◌≢◌, cond, eqb, List, [], ◌∷◌, ◌++◌, length, get_or, drop, Option, Some}
+use Rattle.std.proofs.Common.{◌≡◌, ℕ, ◌+◌, ◌<◌, ◌≤◌, ◌≢◌, cond, eqb, List, [], ◌∷◌, length, get_or, drop, Option, Some}
 use Rattle.std.proofs.Common.{None, refl, sym, ap, subst, ◌∙◌, arith}
-use Rattle.std.specs.Prelude.{reverse, option_and_then, option_map, option_to_list}
-use Rattle.std.proofs.lemmas.List.{drop_more, drop_all, reverse-append, append-nil}
+use Rattle.std.specs.Prelude.{option_and_then, option_map}
+use Rattle.std.proofs.lemmas.List.{drop_more, drop_all}
 use Rattle.std.proofs.lemmas.Bool.{ne_eqb, eq-eqb}
 use Rattle.hm_kernel_text.specs.Words.{words_behind}
 use Rattle.hm_kernel_text.specs.Trees.{leaves}
@@ -11,14 +11,6 @@ use Rattle.hm_kernel_text.proofs.WordSteps.{words_cut}
 use Rattle.hm_kernel_text.proofs.TreeLaws.{leaves_are}
 use Rattle.hm_kernel_text.specs.declared.shape.Side.{Side}
 use Rattle.hm_kernel_text.specs.Shapes.{close_side, closed_sides, leaves_after, leaves_from, operations_behind, shape_in}
-
-pub reverse-push : {A : Type 0} (xs : List A) (x : A) → reverse (xs ++ x ∷ []) ≡ x ∷ reverse xs
-reverse-push xs x = reverse-append xs (x ∷ [])
-
--- what was there before
-abbrev pub behind_pop : Option Side → List Side → List Side
-behind_pop None ss = ss
-behind_pop (Some s) ss = s ∷ ss
 
 closed_more : (ss : List Side) (brackets : List ℕ) (i : ℕ) → i < length brackets
     → closed_sides ss (drop i brackets)
@@ -44,11 +36,6 @@ closed_next ss more brackets i lt is one = closed_more ss brackets i lt ∙ rw (
 pub closed_end : (ss : List Side) (brackets : List ℕ) (i : ℕ) → length brackets ≤ i → closed_sides ss (drop i brackets) ≡ Some ss
 unfolding closed_sides
 closed_end ss brackets i le = rw (drop_all i brackets le) refl
-
--- what is closed behind a `pop`
-pub popped : (old new : List Side) (r : Option Side) → old ≡ new ++ option_to_list r → reverse old ≡ behind_pop r (reverse new)
-popped old new None e = ap reverse (e ∙ append-nil new)
-popped old new (Some s) e = ap reverse e ∙ reverse-push new s
 
 -- the first words of what is left
 pub leaves_more : (ss : List Side) (n : ℕ) (words : List (List ℕ)) (w : List ℕ) (ws : List (List ℕ)) → words ≡ w ∷ ws

@@ -37,10 +37,6 @@ test_map : {A B : Type 0} (b : Bool) (f : A → B) (x : Option A) (y : Option B)
 test_map true f x y e = e
 test_map false f x y e = refl
 
-map_then : {A B C : Type 0} (f : B → C) (g : A → Option B) (x : Option A)
-    → option_map f (option_and_then g x) ≡ option_and_then (λ a. option_map f (g a)) x
-map_then f g x = grind arith
-
 closed_shape : (cs : List ℕ) (fs : List Frame) (t : Tree) → option_map (λ s. sides s.0) (closed fs t cs) ≡ closed_sides (sides fs) cs
 unfolding closed closed_sides
 closed_shape [] fs t = refl

@@ -71,6 +71,3 @@ operand_passes text here behind there n t is e o =
 pub passes_operand : (text here behind there : List ℕ) (n : ℕ) (t : Tok) → here ≡ skip text → token_at here ≡ Some (t, behind) → Passes n false behind there
     → IsOperand text n there
 passes_operand text here behind there n t is e p = ((is_spaced text, kind t), p.0, (behind, next_at text here behind t is e, p.1), p.2)
-
-pub no_operand : (text here there : List ℕ) (n : ℕ) → here ≡ skip text → token_at here ≡ None → IsOperand text n there → ⊥
-no_operand text here there n is e o = differs (next text) (o.0, o.2.0) (nothing_at text here is e) o.2.1

@@ -4,13 +4,6 @@ use Rattle.std.proofs.lemmas.List.Elements.{All-head, All-tail}
 use Rattle.hm_machine.specs.Machines.{left_in, HasTick}
 use Rattle.hm_sched.specs.Schedule.{TickLine, IsLine, repeat, ticks_of}
 
--- a line in which a cursor stands
-pub below : (lines : List TickLine) (k used : ℕ) → HasTick (drop k lines) used → k < length lines
-below [] zero used h = absurd h
-below [] (suc k) used h = absurd h
-below (x ∷ xs) zero used h = omega arith
-below (x ∷ xs) (suc k) used h = let r = below xs k used h in omega (arith, r)
-
 some_one : (x l : TickLine) → Some x ≡ Some l → x ≡ l
 some_one x l e = cc
 

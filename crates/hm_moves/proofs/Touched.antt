@@ -1,8 +1,8 @@
 -- What the code of a row that loads or stores touches is what its tree touches.
-use Rattle.std.proofs.Common.{◌≡◌, ℕ, ◌+◌, ◌<◌, Bool, true, false, not, cond, ltb, List, [], ◌∷◌, ◌++◌, map, drop, length, get_or, refl, sym, ◌∙◌, ap}
+use Rattle.std.proofs.Common.{◌≡◌, ℕ, ◌+◌, ◌<◌, Bool, true, false, not, cond, ltb, List, [], ◌∷◌, ◌++◌, map, refl, sym, ◌∙◌, ap}
 use Rattle.std.proofs.Common.{append_assoc}
 use Rattle.std.proofs.lemmas.List.{append-nil, map-append}
-use Rattle.hm_base.specs.Place.{listed, noted, noted_all}
+use Rattle.hm_base.specs.Place.{listed, noted_all}
 use Rattle.hm_base.specs.declared.Place.{Place}
 use Rattle.hm_base.specs.declared.Place.TheVariants.{P0}
 use Rattle.hm_base.specs.declared.Stop.{Stop}
@@ -22,17 +22,11 @@ use Rattle.hm_beat.proofs.Footprint.{advance_places_is, all_listed, bytes_at, by
 use Rattle.hm_moves.specs.declared.elements.Element.{Element}
 use Rattle.hm_moves.specs.Coded.{begun_in}
 use Rattle.hm_moves.specs.Moves.{Moves, bytes_of_elements, elements_at, fill, moved_by, moves_tree, sources_at, store_all, store_bytes, byte_count, words_read}
-use Rattle.hm_moves.proofs.Loops.{drop_at}
 use Rattle.hm_moves.proofs.Trees.{begun_places, leaf_at, reach_moves, tests_moves}
 
 pub begun_is : (w : Bool) (b : ℕ) (r : Regs) (m : Memory) (output : List ℕ) → begun_places w b (state_of r m output) ≡ begun_in w b r
 begun_is true b r m output = tested_is false b r m output
 begun_is false b r m output = ap (λ n. mask_place b ∷ cond (ltb 8 n) (P0 b ∷ []) []) (mask_is b r m output)
-
--- one place more is noted, from the last one on
-pub note_next : (ps : List Place) (k : ℕ) (d : Place) (qs rs us : List Place) → k < length ps → qs ≡ noted_all (drop (k + 1) ps) us
-    → rs ≡ noted (get_or ps k d) qs → rs ≡ noted_all (drop k ps) us
-note_next ps k d qs rs us low h e = e ∙ ap (noted (get_or ps k d)) h ∙ sym (ap (λ xs. noted_all xs us) (drop_at d ps k low))
 
 places_bytes : (bs : List ℕ) (cs : List Cell) → places_in (map Byte bs ++ cs) ≡ places_in cs
 places_bytes [] cs = refl

@@ -10,20 +10,11 @@ use Rattle.hm_order.proofs.Results.{ok_same, then_ok_at, decide}
 use Rattle.hm_order.proofs.Views.{same_live, live_trans}
 use Rattle.hm_order.proofs.Beats.{beats_split, beats_ready, beats_live}
 
--- what is the same either way
-cond_same : {A : Type 0} (b : Bool) (x y : A) → x ≡ y → cond b x y ≡ y
-cond_same true x y e = e
-cond_same false x y e = refl
-
 -- the test for beat 0 fails past it
 past_zero : (a : ℕ) → 0 < a → (a == 0) ≡ false
 past_zero a more = grind (arith, nat_tests)
 
 module _ {S I C V E W B : Type 0} (M : Core S I C V E W B) where
-  -- where the instruction makes no context, a stop leaves the position before it
-  pub begun_same : (c : Config S) → M.made c.state ≡ c.state → begun M c ≡ c
-  begun_same c e = ap (λ (s : S). record c { state = s }) (cond_same (c.a == 0) (M.made c.state) c.state e)
-
   -- so it does past beat 0, where none is made
   pub begun_later : (c : Config S) → 0 < c.a → begun M c ≡ c
   begun_later c more = ap (λ (b : Bool). record c { state = cond b (M.made c.state) c.state }) (past_zero c.a more)

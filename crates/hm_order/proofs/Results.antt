@@ -64,15 +64,6 @@ module _ {A B E : Type 0} (R : A → B → Type 0) where
   alike_then R' (Err e) (Ok b) f g h k = absurd h
   alike_then R' (Err e) (Err e') f g h k = h
 
-  pub alike_trans : {D : Type 0} (R' : B → D → Type 0) (R'' : A → D → Type 0) (r : Result A E) (q : Result B E) (p : Result D E)
-      → ((x : A) (y : B) (z : D) → R x y → R' y z → R'' x z) → Alike R r q → Alike R' q p → Alike R'' r p
-  alike_trans R' R'' (Ok a) (Ok b) (Ok d) f h k = f a b d h k
-  alike_trans R' R'' (Ok a) (Ok b) (Err e) f h k = k
-  alike_trans R' R'' (Ok a) (Err e) p f h k = absurd h
-  alike_trans R' R'' (Err e) (Ok b) p f h k = absurd h
-  alike_trans R' R'' (Err e) (Err e') (Ok d) f h k = k
-  alike_trans R' R'' (Err e) (Err e') (Err e'') f h k = h ∙ k
-
   -- the same of results of which the first may have stopped by a dead cell
   pub tells_then : {A' B' : Type 0} (R' : A' → B' → Type 0) (p : E → Bool) (r : Result A E) (q : Result B E) (f : A → Result A' E) (g : B → Result B' E)
       → StopsBy p r ⊎ Alike R r q → ((x : A) (y : B) → r ≡ Ok x → q ≡ Ok y → R x y → StopsBy p (f x) ⊎ Alike R' (f x) (g y))

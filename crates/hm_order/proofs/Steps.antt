@@ -1,7 +1,7 @@
 -- Each step of the machine keeps what holds at its positions.
-use Rattle.std.proofs.Common.{ℕ, ◌+◌, ◌-◌, Option, Result, Ok, Err, Bool, true, false, cond, ◌⊎◌, inl, inr, refl, sym, ◌∙◌, ap, subst, arith, ⊎_elim}
-use Rattle.hm_order.specs.Beats.{Live, Alike, StopsBy, then, beats}
-use Rattle.hm_order.specs.Machine.{Clean, Core, CoreLaws, Config, End, Stopped, Broken, Restores, older_of, older, younger, interrupted, at_start}
+use Rattle.std.proofs.Common.{ℕ, ◌+◌, ◌-◌, Option, Result, Ok, Err, ◌⊎◌, inl, inr, refl, sym, ◌∙◌, ap, subst, arith, ⊎_elim}
+use Rattle.hm_order.specs.Beats.{Live, Alike, StopsBy, beats}
+use Rattle.hm_order.specs.Machine.{Clean, Core, CoreLaws, Config, Restores, older_of, older, younger, interrupted, at_start}
 use Rattle.hm_order.specs.Position.{Reaches, Between, Inside, Holds, Agrees}
 use Rattle.hm_order.proofs.Views.{live_trans}
 use Rattle.hm_order.proofs.Beats.{beats_live}
@@ -19,18 +19,6 @@ module _ {S I C V E W B : Type 0} (M : Core S I C V E W B) where
     count = omega arith;
     place = inl (record { a = refl; b = refl; live = record { cells = λ c _. refl; sticky = refl } });
   }
-
-  -- one step after another
-  pub then_agrees : (first : S) (r : Result (Config S) (End S E B)) (f : Config S → Result (Config S) (End S E B)) → Agrees M first r
-      → ((c : Config S) → Holds M first c → Agrees M first (f c)) → Agrees M first (then r f)
-  then_agrees first (Ok c) f h k = k c h
-  then_agrees first (Err (Stopped c e)) f h k = h
-  then_agrees first (Err (Broken c b)) f h k = h
-
-  -- one step or another
-  pub cond_agrees : (first : S) (b : Bool) (r q : Result (Config S) (End S E B)) → Agrees M first r → Agrees M first q → Agrees M first (cond b r q)
-  cond_agrees first true r q h k = h
-  cond_agrees first false r q h k = k
 
   reaches_more : (r q : Result S E) (w : Result S W) (o : Option I) (b : ℕ) → StopsBy M.rows.tainted r ⊎ Alike (Live M.rows.view) r q → Reaches M q w o b
       → Reaches M r w o b

@@ -170,9 +170,6 @@ module _ (ends : ℕ → Ended) where
       ((before.0, let lt = before.1 in omega arith, before.2 ∙ sym same, late), noted_order n xs ys rest order.1 on.2)
 
   -- NO RUN, and one run more
-  pub none_counted : AreCounted ends 0 []
-  none_counted = record { each = All-nil (IsCounted ends 0); order = tt; all = λ run lt. absurd (omega arith) }
-
   pub next_counted : (n : ℕ) (xs ys : List Found) → AreCounted ends n xs → IsNoted (ends n) n xs ys → AreCounted ends (n + 1) ys
   next_counted n xs ys is noted =
       let more : suc n ≡ n + 1 = omega arith in

@@ -1,10 +1,8 @@
 -- Lines that are added to a schedule, pair by pair.
 use Rattle.std.proofs.Common.{◌≡◌, ℕ, zero, suc, ◌+◌, ◌*◌, ◌%◌, ◌≤◌, Bool, true, false, cond, nat_eq, List, [], ◌∷◌, ◌++◌, refl, sym, ap, ◌∙◌, arith}
-use Rattle.std.specs.Prelude.{IfOk, Result, Ok, Err}
 use Rattle.std.proofs.lemmas.List.{append-nil, append_assoc}
 use Rattle.std.proofs.lemmas.List.Sums.{sum_by-append}
 use Rattle.hm_base.specs.Image.{sram_start}
-use Rattle.hm_base.specs.declared.errors.OutOfMemory.{OutOfMemory}
 use Rattle.hm_sched.specs.Schedule.{Sched, TickLine, plain_line, total}
 use Rattle.hm_soak.specs.Lines.{with_lines}
 use Rattle.hm_soak_laws.specs.Schedule.{both, pair_lines, pairs, schedule, twice}
@@ -18,12 +16,6 @@ twice_with xs ys s = ap (λ (ls : List TickLine). record s { lines = ls }) (appe
 
 pub with_more : (xs ys : List TickLine) (a b c : Sched) → b ≡ with_lines xs a → c ≡ with_lines ys b → c ≡ with_lines (xs ++ ys) a
 with_more xs ys a b c h k = k ∙ ap (with_lines ys) h ∙ twice_with xs ys a
-
--- by a last call that may find no memory
-pub with_last : (xs ys : List TickLine) (a b c : Sched) (r : Result (Unit {0}) OutOfMemory) → b ≡ with_lines xs a → IfOk r (λ u. c ≡ with_lines ys b)
-    → IfOk r (λ u. c ≡ with_lines (xs ++ ys) a)
-with_last xs ys a b c (Ok u) h k = with_more xs ys a b c h k
-with_last xs ys a b c (Err e) h none = tt
 
 pub total_more : (xs : List TickLine) (a b : Sched) → b ≡ with_lines xs a → total b.lines ≡ total a.lines + total xs
 total_more xs a b h = ap (λ (s : Sched). total s.lines) h ∙ total_with xs a

@@ -4,17 +4,8 @@ use Rattle.hm_tokens.specs.Tokens.{word, number, mark, skip, token_at, minus_mar
 use Rattle.hm_source.specs.Directives.{Datum, literal, named, beyond, datum_tokens}
 use Rattle.hm_line.specs.Fronts.{AreFront}
 use Rattle.hm_source.specs.Shown.{EndsHere}
-use Rattle.hm_text.proofs.Decided.{mark_is, word_is}
-use Rattle.hm_source.proofs.Fronts.{front_one, same_front, same_next}
-
--- ---- that a number begins
-
-pub number_first : (text r rest : List ℕ) (n : ℕ) (d : Datum) → token_at (skip text) ≡ Some (number n, r) → AreFront text (datum_tokens d) rest
-    → (literal false n ≡ d) × (r ≡ rest)
-number_first text r rest n (literal false m) e f = let same = front_one text (number n) (number m) r rest e f in (cc, same.1)
-number_first text r rest n (literal true m) e f = let same = same_next text (number n) minus_mark r f.0 e f.1 in absurd cc
-number_first text r rest n (named w) e f = let same = same_next text (number n) (word w) r f.0 e f.1 in absurd cc
-number_first text r rest n (beyond w m) e f = let same = same_next text (number n) (word w) r f.0 e f.1 in absurd cc
+use Rattle.hm_text.proofs.Decided.{word_is}
+use Rattle.hm_source.proofs.Fronts.{same_front, same_next}
 
 -- ---- that `-` begins
 
@@ -26,14 +17,6 @@ minus_first text r rest (literal true m) e f =
     (m, refl, subst (λ (x : List ℕ). AreFront x (number m ∷ []) rest) (sym same.1) f.2)
 minus_first text r rest (named w) e f = let same = same_next text minus_mark (word w) r f.0 e f.1 in absurd cc
 minus_first text r rest (beyond w m) e f = let same = same_next text minus_mark (word w) r f.0 e f.1 in absurd cc
-
--- ---- that another mark begins
-
-pub mark_first : (text r rest : List ℕ) (c : ℕ) (d : Datum) → token_at (skip text) ≡ Some (mark c, r) → AreFront text (datum_tokens d) rest → c ≡ 45
-mark_first text r rest c (literal false m) e f = let same = same_next text (mark c) (number m) r f.0 e f.1 in absurd cc
-mark_first text r rest c (literal true m) e f = mark_is c 45 (same_next text (mark c) minus_mark r f.0 e f.1).0
-mark_first text r rest c (named w) e f = let same = same_next text (mark c) (word w) r f.0 e f.1 in absurd cc
-mark_first text r rest c (beyond w m) e f = let same = same_next text (mark c) (word w) r f.0 e f.1 in absurd cc
 
 -- ---- that a name begins: it is a name alone, or a number goes on behind `+`
 

@@ -1,12 +1,9 @@
 -- A text has one list of values, and asks for one thing.
-use Rattle.std.proofs.Common.{◌≡◌, ℕ, true, false, List, [], ◌∷◌, ◌++◌, refl, sym, ◌∙◌, arith}
+use Rattle.std.proofs.Common.{◌≡◌, true, false, List, [], ◌∷◌, ◌++◌, refl, sym, ◌∙◌, arith}
 use Rattle.std.proofs.lemmas.List.{append-nil}
 use Rattle.hm_tokens.specs.Tokens.{Tok, number, comma, plus_mark}
-use Rattle.hm_source.specs.declared.values.DatumSize.{DatumSize}
 use Rattle.hm_source.specs.Directives.{Datum, literal, named, beyond, datum_tokens, list_tokens}
-use Rattle.hm_source.specs.Shown.{AreListed}
 use Rattle.hm_text.proofs.Decided.{mark_is}
-use Rattle.hm_source.proofs.Fronts.{one_tokens}
 
 -- no `+` goes on with what stands before
 abbrev EndsTokens : List Tok → Type 0
@@ -64,6 +61,3 @@ one_list d e (x ∷ xs) (y ∷ ys) f =
     let same = one_front d e (comma ∷ list_tokens x xs) (comma ∷ list_tokens y ys) (comma_ends (list_tokens x xs)) (comma_ends (list_tokens y ys)) f in
     let more = one_list x y xs ys (tail_is comma comma (list_tokens x xs) (list_tokens y ys) same.1) in
     (same.0, cc (more.0, more.1))
-
-pub one_listed : (s : DatumSize) (text : List ℕ) (d e : Datum) (ds es : List Datum) → AreListed s text d ds → AreListed s text e es → (d ≡ e) × (ds ≡ es)
-one_listed s text d e ds es a b = one_list d e ds es (one_tokens text (list_tokens d ds) (list_tokens e es) a.0 b.0)

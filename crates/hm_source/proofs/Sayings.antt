@@ -16,18 +16,7 @@ pub without_dot : (text : List ℕ) (n : ℕ) → 0 < length text → (get_or te
 without_dot [] n some e w = absurd (omega arith)
 without_dot (b ∷ bs) n some e w = (e, w)
 
-pub is_nothing : (text : List ℕ) → length text ≡ 0 → Says text nothing
-is_nothing [] e = tt
-is_nothing (b ∷ bs) e = absurd (omega arith)
-
 -- ---- and back
-
-pub is_directive : (text : List ℕ) (said : Said) → 0 < length text → get_or text 0 0 ≡ 46 → Says text said
-    → (asked : Directed) × (said ≡ directive asked) × IsDirective text asked
-is_directive [] said some e s = absurd (omega arith)
-is_directive (b ∷ bs) nothing some e s = absurd s
-is_directive (b ∷ bs) (instruction n) some e s = absurd (s.0 e)
-is_directive (b ∷ bs) (directive asked) some e s = (asked, refl, s.1)
 
 pub is_instruction : (text : List ℕ) (said : Said) → 0 < length text → (get_or text 0 0 ≡ 46 → ⊥) → Says text said
     → (n : ℕ) × (said ≡ instruction n) × HasWidth text n
@@ -35,12 +24,6 @@ is_instruction [] said some e s = absurd (omega arith)
 is_instruction (b ∷ bs) nothing some e s = absurd s
 is_instruction (b ∷ bs) (instruction n) some e s = (n, refl, s.1)
 is_instruction (b ∷ bs) (directive asked) some e s = absurd (e s.0)
-
-pub says_nothing : (text : List ℕ) (said : Said) → length text ≡ 0 → Says text said → said ≡ nothing
-says_nothing [] nothing e s = refl
-says_nothing [] (instruction n) e s = absurd s
-says_nothing [] (directive asked) e s = absurd s
-says_nothing (b ∷ bs) said e s = absurd (omega arith)
 
 -- ---- as the code reads
 

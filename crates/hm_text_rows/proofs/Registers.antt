@@ -4,7 +4,7 @@ use Rattle.std.proofs.Common.{append_assoc, arith}
 use Rattle.std.specs.Prelude.{nat_le, ◌&&◌}
 use Rattle.std.proofs.Math.Bool.{or-true}
 use Rattle.std.proofs.lemmas.Bool.Decides.{nat_tests}
-use Rattle.std.proofs.lemmas.List.{append-nil, length-append}
+use Rattle.std.proofs.lemmas.List.{length-append}
 use Rattle.hm_isa.specs.Rules.{listed_in}
 use Rattle.hm_tokens.specs.Lines.{spelled_behind}
 use Rattle.hm_tokens.specs.Names.{register_name}
@@ -118,13 +118,6 @@ module _ (m k n regs : ℕ) (some : 0 < n) where
       let all : length (listed (mark m) (registers_from n k regs)) ≡ suc (suc (length (listed comma behind_it))) =
       ap (λ (ks : List ℕ). length (listed (mark m) ks)) (taken e) in
       omega (arith, all)
-
--- the text with them
-pub none_more : (front : List Tok) (m k n regs : ℕ) → n ≡ 0 → front ≡ front ++ listed (mark m) (registers_from n k regs)
-none_more front m k n regs e = sym (ap (λ (j : ℕ). front ++ listed (mark m) (registers_from j k regs)) e ∙ append-nil front)
-
-pub none_count : (m k n regs : ℕ) → n ≡ 0 → length (listed (mark m) (registers_from n k regs)) ≡ 0
-none_count m k n regs e = ap (λ (j : ℕ). length (listed (mark m) (registers_from j k regs))) e
 
 pub taken_more : (front one two all : List Tok) (m k n regs : ℕ) → 0 < n → listed_in regs k ≡ true → one ≡ front ++ mark m ∷ [] → two ≡ one ++ r k ∷ []
     → all ≡ two ++ listed comma (registers_from (n - 1) (k + 1) regs) → all ≡ front ++ listed (mark m) (registers_from n k regs)

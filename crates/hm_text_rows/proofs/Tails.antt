@@ -1,7 +1,6 @@
 -- The last of some tokens.
-use Rattle.std.proofs.Common.{◌≡◌, suc, ◌-◌, ◌<◌, List, [], ◌∷◌, ◌++◌, length, length-append, map, take, get_or, refl, ap, ◌∙◌, arith}
-use Rattle.hm_tokens.specs.declared.token.Token.{Token}
-use Rattle.hm_tokens.specs.Tokens.{Tok, tok}
+use Rattle.std.proofs.Common.{◌≡◌, ◌-◌, List, [], ◌∷◌, ◌++◌, length, length-append, refl, ap, arith}
+use Rattle.hm_tokens.specs.Tokens.{Tok}
 
 cons_one : (x y : Tok) (xs ys : List Tok) → x ∷ xs ≡ y ∷ ys → (x ≡ y) × (xs ≡ ys)
 cons_one x y xs ys e = (cc, cc)
@@ -17,13 +16,3 @@ last_one (x ∷ xs) (y ∷ ys) t u e =
   where
     ap2_cons : x ≡ y → xs ≡ ys → x ∷ xs ≡ y ∷ ys
     ap2_cons a b = cc
-
-pub nothing_not : (row ts : List Tok) (t : Tok) → row ++ t ∷ [] ≡ ts → ts ≡ [] → ⊥
-nothing_not row ts t e f = let n = ap length (e ∙ f) in omega (arith, n, length-append row (t ∷ []))
-
-pub split_is : (ts : List Token) (d : Token) → 0 < length ts → map tok ts ≡ map tok (take (length ts - 1) ts) ++ tok (get_or ts (length ts - 1) d) ∷ []
-split_is [] d lt = absurd (omega (arith, lt))
-split_is (x ∷ []) d lt = refl
-split_is (x ∷ y ∷ ys) d lt =
-    let e : length (x ∷ y ∷ ys) - 1 ≡ suc (length (y ∷ ys) - 1) = omega arith in
-    rw e (ap (λ (zs : List Tok). tok x ∷ zs) (split_is (y ∷ ys) d (omega arith)))

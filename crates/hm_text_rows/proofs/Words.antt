@@ -1,9 +1,9 @@
 -- Mnemonics: a mnemonic, and what stands behind the point; names.
 use Rattle.std.proofs.Common.{◌≡◌, ℕ, zero, suc, ◌<◌, ◌≤◌, Bool, true, false, eqb, ltb, List, [], ◌∷◌, ◌++◌, length, Option, Some, None}
 use Rattle.std.proofs.Common.{refl, sym, subst, ap, inl, inr, arith}
-use Rattle.std.specs.Prelude.{◌&&◌, is_none, not, unwrap_or}
+use Rattle.std.specs.Prelude.{◌&&◌, not, unwrap_or}
 use Rattle.std.specs.List.{list_all}
-use Rattle.std.proofs.lemmas.Bool.{agree_below, agree_below_at, cases_Bool, eqb-true, eqb-false, and_parts, false≢true, not-true}
+use Rattle.std.proofs.lemmas.Bool.{agree_below, agree_below_at, cases_Bool, eqb-true, eqb-false, and_parts, not-true}
 use Rattle.std.proofs.lemmas.Bool.Decides.{nat_tests}
 use Rattle.std.proofs.lemmas.List.{length-append}
 use Rattle.hm_text_base.specs.Spans.{span}
@@ -43,11 +43,6 @@ proof ▹ others = (proof, others)
 pub there : (o : Option ℕ) (n : ℕ) → unwrap_or o 0 ≡ n → 0 < n → o ≡ Some n
 there (Some m) n e some = ap (λ (k : ℕ). Some k) e
 there None n e some = absurd (omega (arith, e, some))
-
--- and what a test tells to be missing is
-pub none_is : {A : Type 0} {o : Option A} → is_none o ≡ true → o ≡ None
-none_is {o = Some x} e = absurd (false≢true e)
-none_is {o = None} e = refl
 
 -- WORDS
 abbrev pub is_part : ℕ → Bool

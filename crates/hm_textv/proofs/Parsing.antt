@@ -1,7 +1,6 @@
 -- Reading a text: a row that has its tokens is the row of the code that they are given.
-use Rattle.std.proofs.Common.{◌≡◌, ℕ, ◌<◌, ◌≤◌, Bool, true, false, List, length, Option, Some, None, refl, sym, subst, ap, ◌∙◌, inl, inr, arith}
-use Rattle.std.specs.Prelude.{◌↔◌, IfSome, IsTrue}
-use Rattle.std.proofs.lemmas.Bool.{false≢true}
+use Rattle.std.proofs.Common.{◌≡◌, ℕ, ◌<◌, ◌≤◌, List, length, Option, Some, None, sym, subst, arith}
+use Rattle.std.specs.Prelude.{IfSome}
 use Rattle.hm_isa.specs.declared.Vector.{Vector}
 use Rattle.hm_isa.specs.Code.{vector_code}
 use Rattle.hm_text_base.proofs.Steps.{some_is}
@@ -9,7 +8,7 @@ use Rattle.hm_tokens.specs.Lines.{IsLineOf}
 use Rattle.hm_tokens.specs.Tokens.{Tok}
 use Rattle.hm_textv_codes.specs.Asked.{IsCodeIn}
 use Rattle.hm_textv_codes.proofs.Rows.{text_law}
-use Rattle.hm_textv_rows.specs.Rows.{HasTokens, IsTextOf, other_tokens, tokens_of}
+use Rattle.hm_textv_rows.specs.Rows.{HasTokens, IsTextOf}
 use Rattle.hm_textv.proofs.Fits.{code_below}
 
 pub the_code : (ts : List Tok) (w : ℕ) → IsCodeIn ts (Some w) → (v : Vector) → HasTokens v ts → vector_code v ≡ w
@@ -40,25 +39,3 @@ text_only text ts r line row v is =
 
 pub text_none : (text : List ℕ) → ((us : List Tok) → IsLineOf text us → length us ≤ 40 → no_tokens ≡ these us) → (v : Vector) → IsTextOf text v → ⊥
 text_none text line v is = let e = line is.0 is.1 (text_law v is.0 is.2).prints.few in cc
-
--- WHETHER TOKENS ARE A ROW'S
-pub first_has : (v : Vector) (ts xs : List Tok) → xs ≡ tokens_of v → ts ≡ xs → IsTrue true ↔ HasTokens v ts
-first_has v ts xs e f = (λ t. inl (sym (f ∙ e)), λ h. refl)
-
-not_first : (v : Vector) (ts xs : List Tok) (b : Bool) → xs ≡ tokens_of v → (IsTrue b ↔ (ts ≡ xs)) → b ≡ false → tokens_of v ≡ ts → ⊥
-not_first v ts xs b e is f h = let t : b ≡ true = is.1 (sym h ∙ sym e) in false≢true (sym f ∙ t)
-
-pub other_has : (v : Vector) (ts xs ys : List Tok) (b r : Bool) → xs ≡ tokens_of v → (IsTrue b ↔ (ts ≡ xs)) → b ≡ false → these ys ≡ other_tokens v
-    → (IsTrue r ↔ (ts ≡ ys))
-    → IsTrue r ↔ HasTokens v ts
-other_has v ts xs ys b r e is f o has = (
-  λ t. inr (sym o ∙ ap these (sym (has.0 t))),
-  λ h. elim h [ inl a ↦ absurd (not_first v ts xs b e is f a) | inr a ↦ has.1 (sym (some_is ys ts (o ∙ a))) ],
-)
-
-pub none_has : (v : Vector) (ts xs : List Tok) (b : Bool) → xs ≡ tokens_of v → (IsTrue b ↔ (ts ≡ xs)) → b ≡ false → no_tokens ≡ other_tokens v
-    → IsTrue false ↔ HasTokens v ts
-none_has v ts xs b e is f o = (
-  λ t. absurd (false≢true t),
-  λ h. elim h [ inl a ↦ absurd (not_first v ts xs b e is f a) | inr a ↦ let n : no_tokens ≡ these ts = o ∙ a in absurd cc ],
-)
