@@ -48,7 +48,7 @@ fn encode_sum(r: &Sum) -> u32
         + (r.m.get() << 1)
 }
 
-/// The elements of `vmladav` whose code without its fields is this.
+/// The elements of `vmladav` and `vmladava` whose code without its fields is this.
 fn dot_size(base: u32) -> Option<Element>
     ensures found { IfSome result (λ x. dot_base x ≡ base) }
     ensures none { IfNone result ((x : Element) → dot_base x ≡ base → ⊥) }
@@ -61,7 +61,7 @@ fn dot_size(base: u32) -> Option<Element>
     }
 }
 
-/// The code of a size of `vmladav`, of the row V22, without its fields.
+/// The code of a size of `vmladav` and `vmladava`, of the row V22, without its fields.
 pub fn base_of_dot(size: Element) -> u32
     ensures value { result ≡ dot_base size }
 {

@@ -1,4 +1,4 @@
-//! `vaddlv` and `vmlaldav`.
+//! `vaddlv`, `vaddlva`, `vmlaldav` and `vmlaldava`.
 
 ghost use Rattle.std.specs.Prelude.{◌≡◌, ℕ, ◌+◌, ◌*◌, ◌^◌, ◌<◌, ◌&&◌, cond, eqb, not, true, List, [], Ok};
 ghost use Rattle.hm_base.specs.Place.{IsPlace};
@@ -45,7 +45,7 @@ fn start(row: &LongSums, b: u8, low: u32, high: u32) -> u64
     }
 }
 
-/// What beat `b` of `vaddlv` or `vmlaldav` touches: DDI0553, "VADDLV" and "VMLALDAV". `b` is below 4.
+/// What beat `b` of `vaddlv`, `vaddlva`, `vmlaldav` or `vmlaldava` touches: DDI0553, "VADDLV" and "VMLALDAV". `b` is below 4.
 pub fn touch_long(row: &LongSums, b: u8, r: &Regs) -> Touch
     requires { b < 4 }
     ensures reads { (m : Memory) (output : List ℕ) → result.reads ≡ reads_in (row_tree (long_row row.now) b) r.now m output }
@@ -69,7 +69,7 @@ pub fn touch_long(row: &LongSums, b: u8, r: &Regs) -> Touch
     touch_row(sources, Some(low), Some(high), shape, b, r)
 }
 
-/// Does beat `b` of `vaddlv` or `vmlaldav`: DDI0553, "VADDLV" and "VMLALDAV". `b` is below 4.
+/// Does beat `b` of `vaddlv`, `vaddlva`, `vmlaldav` or `vmlaldava`: DDI0553, "VADDLV" and "VMLALDAV". `b` is below 4.
 pub fn beat_long(row: &LongSums, b: u8, r: &mut Regs)
     requires { b < 4 }
     ensures done { (m : Memory) (output : List ℕ) → run (row_tree (long_row row.now) b) r.old m output ≡ Ok (state_of r.new m output) }

@@ -1,4 +1,4 @@
-//! `vaddv` and `vmladav`.
+//! `vaddv`, `vaddva`, `vmladav` and `vmladava`.
 
 ghost use Rattle.std.specs.Prelude.{◌≡◌, ℕ, ◌<◌, List, [], Ok, ◌*◌, ◌^◌, ◌&&◌, cond, eqb, not, true};
 ghost use Rattle.hm_mem.specs.Memory.{Memory};
@@ -47,7 +47,7 @@ fn start(row: &Sums, b: u8, old: u32) -> u32
     if !row.goes_on && b == 0 { 0 } else { old }
 }
 
-/// What beat `b` of `vaddv` or `vmladav` touches: DDI0553, "VADDV" and "VMLADAV". `b` is below 4.
+/// What beat `b` of `vaddv`, `vaddva`, `vmladav` or `vmladava` touches: DDI0553, "VADDV" and "VMLADAV". `b` is below 4.
 pub fn touch_sum(row: &Sums, b: u8, r: &Regs) -> Touch
     requires { b < 4 }
     ensures reads { (m : Memory) (output : List ℕ) → result.reads ≡ reads_in (row_tree (sum_row row.now) b) r.now m output }
@@ -69,7 +69,7 @@ pub fn touch_sum(row: &Sums, b: u8, r: &Regs) -> Touch
     touch_row(sources, Some(register), None, shape, b, r)
 }
 
-/// Does beat `b` of `vaddv` or `vmladav`: DDI0553, "VADDV" and "VMLADAV". `b` is below 4.
+/// Does beat `b` of `vaddv`, `vaddva`, `vmladav` or `vmladava`: DDI0553, "VADDV" and "VMLADAV". `b` is below 4.
 pub fn beat_sum(row: &Sums, b: u8, r: &mut Regs)
     requires { b < 4 }
     ensures done { (m : Memory) (output : List ℕ) → run (row_tree (sum_row row.now) b) r.old m output ≡ Ok (state_of r.new m output) }

@@ -173,11 +173,13 @@ begins carry.Adci = true
 begins carry.Sbci = true
 begins name = false
 
--- V8: the place of the carry, which holds N, Z, C, V from bit 3 down; beat 0 of VADCI and VSBCI does not read it (DDI0553, "VADC" and "VSBC")
+-- V8: the place of the carry of VADC, VADCI, VSBC and VSBCI, which holds N, Z, C, V from bit 3 down; beat 0 of VADCI and VSBCI does not read it
+-- (DDI0553, "VADC" and "VSBC")
 abbrev pub carry_places : CarryName → ℕ → List Place
 carry_places name b = cond (begins name && eqb b 0) [] (Carry ∷ [])
 
--- V8: the flags before a word is added: those that were read, or else those that VADCI or VSBCI begins with (DDI0553, "VADC" and "VSBC")
+-- V8: the flags before a word of VADC, VADCI, VSBC or VSBCI is added: those that were read, or else those that VADCI or VSBCI begins with
+-- (DDI0553, "VADC" and "VSBC")
 abbrev pub flags_before : CarryName → List ℕ → ℕ
 flags_before name [] = cond (subtracts name) 2 0
 flags_before name (flags ∷ vs) = flags

@@ -1,4 +1,4 @@
-//! `vadc` and `vsbc`.
+//! `vadc`, `vadci`, `vsbc` and `vsbci`.
 
 ghost use Rattle.std.specs.Prelude.{◌≡◌, ℕ, ◌<◌, List, [], Ok, ◌+◌, ◌-◌, ◌/◌, ◌%◌, ◌*◌, ◌^◌, ◌&&◌, ◌∷◌, map, cond, eqb, length, ◌≤◌};
 ghost use Rattle.hm_mem.specs.Memory.{Memory};

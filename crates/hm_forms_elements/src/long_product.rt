@@ -1,4 +1,4 @@
-//! `vmull`.
+//! `vmullb` and `vmullt`.
 
 ghost use Rattle.std.specs.Prelude.{◌≡◌, ℕ, ◌*◌, ◌%◌, ◌^◌, ◌-◌, ◌<◌, List, [], Ok, cond, true, eqb, ◌/◌};
 ghost use Rattle.hm_base.specs.Place.{IsPlace};

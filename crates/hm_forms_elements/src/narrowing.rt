@@ -1,4 +1,4 @@
-//! `vmovn`, `vqmovn` and `vqmovun`.
+//! `vmovnb`, `vmovnt`, `vqmovnb`, `vqmovnt`, `vqmovunb` and `vqmovunt`.
 
 ghost use Rattle.std.specs.Prelude.{◌≡◌, ℕ, ◌<◌, List, [], Ok, Bool};
 ghost use Rattle.hm_mem.specs.Memory.{Memory};
@@ -121,7 +121,8 @@ fn narrowing_tests(wide: bool, top: bool, f: NarrowingName, x: u32) -> [bool; 4]
     }
 }
 
-/// What beat `b` of `vmovn`, `vqmovn` or `vqmovun` touches: DDI0553, "VMOVN", "VQMOVN" and "VQMOVUN". `b` is below 4.
+/// What beat `b` of `vmovnb`, `vmovnt`, `vqmovnb`, `vqmovnt`, `vqmovunb` or `vqmovunt` touches: DDI0553, "VMOVN", "VQMOVN" and "VQMOVUN".
+/// `b` is below 4.
 pub fn touch_narrowing(row: &V16, b: u8, r: &Regs) -> Touch
     requires { b < 4 }
     ensures reads { (m : Memory) (output : List ℕ) → result.reads ≡ reads_in (row_tree (narrowing_row row.now) b) r.now m output }
@@ -142,7 +143,7 @@ pub fn touch_narrowing(row: &V16, b: u8, r: &Regs) -> Touch
     touch_row(sources, Some(word), None, shape, b, r)
 }
 
-/// Does beat `b` of `vmovn`, `vqmovn` or `vqmovun`: DDI0553, "VMOVN", "VQMOVN" and "VQMOVUN". `b` is below 4.
+/// Does beat `b` of `vmovnb`, `vmovnt`, `vqmovnb`, `vqmovnt`, `vqmovunb` or `vqmovunt`: DDI0553, "VMOVN", "VQMOVN" and "VQMOVUN". `b` is below 4.
 pub fn beat_narrowing(row: &V16, b: u8, r: &mut Regs)
     requires { b < 4 }
     ensures done { (m : Memory) (output : List ℕ) → run (row_tree (narrowing_row row.now) b) r.old m output ≡ Ok (state_of r.new m output) }

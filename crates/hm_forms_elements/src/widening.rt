@@ -1,4 +1,4 @@
-//! `vshll` and `vmovl`.
+//! `vshllb`, `vshllt`, `vmovlb` and `vmovlt`.
 
 ghost use Rattle.std.specs.Prelude.{◌≡◌, ℕ, ◌<◌, List, [], Ok};
 ghost use Rattle.hm_mem.specs.Memory.{Memory};

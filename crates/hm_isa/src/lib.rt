@@ -343,7 +343,7 @@ pub enum Vector {
     V20(V20),
     /// `vpst`, `vpnot`, `vpsel`, `vctp`
     V21(V21),
-    /// `vaddv`, `vmladav`, `vaddlv`, `vmlaldav`
+    /// `vaddv`, `vaddva`, `vmladav`, `vmladava`, `vaddlv`, `vaddlva`, `vmlaldav`, `vmlaldava`
     V22(V22),
     /// `vmaxv`, `vminv`
     V23(V23),

@@ -544,13 +544,13 @@ pub struct V15 {
 /// "VQMOVUN".
 #[derive(Clone, Copy)]
 pub enum NarrowingName {
-    /// `vmovn`
+    /// `vmovnb` and `vmovnt`
     Plain,
-    /// `vqmovun`
+    /// `vqmovunb` and `vqmovunt`
     ToUnsigned,
-    /// `vqmovn` of signed elements
+    /// `vqmovnb` and `vqmovnt` of signed elements
     Signed,
-    /// `vqmovn` of unsigned elements
+    /// `vqmovnb` and `vqmovnt` of unsigned elements
     Unsigned,
 }
 

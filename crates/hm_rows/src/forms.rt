@@ -291,7 +291,7 @@ pub fn predicate_form(row: &V21) -> Form
     }
 }
 
-/// The form of `vaddlv`.
+/// The form of `vaddlv` and `vaddlva`.
 fn long_sum_form(row: &LongSum) -> Form
     ensures { result ≡ sum_form (v22.LongSum row.now) }
 {
@@ -309,7 +309,7 @@ fn long_sum_form(row: &LongSum) -> Form
     })
 }
 
-/// The form of `vmlaldav`.
+/// The form of `vmlaldav` and `vmlaldava`.
 fn long_dot_form(row: &LongDot) -> Form
     ensures { result ≡ sum_form (v22.LongDot row.now) }
 {

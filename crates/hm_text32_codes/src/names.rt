@@ -18,7 +18,8 @@ use hm_isa::{
 };
 use hm_text_rows::named;
 
-/// What a mnemonic of rows T1, T2 and T8 says; a number 1 behind a name or alone says that the flags tell the result.
+/// What a mnemonic of rows T1, T2 and T8 says; a number 1 behind a name or alone says that the flags tell the result: DDI0553,
+/// "Data-processing (modified immediate)", "Data-processing (shifted register)" and, of T8, as "LSL (register)".
 #[derive(Clone, Copy)]
 pub enum DataKind {
     /// A register for the result and a first one.

@@ -135,7 +135,8 @@ constant_given op cm d x =
     else if nat_lt cm 14 then given false 0 2 kinds.Word d x 1 (cm % 2 * 8 + 8)
     else two_given 0 (if nat_eq op 0 then 0 else 3) d x
 
--- V16: 1 where the elements that VQMOVNB or VQMOVNT reads are unsigned; else 0 (DDI0553, "VQMOVN")
+-- V16: 1 where the wide elements are unsigned: those of VQMOVNB and VQMOVNT of unsigned elements, and of no VMOVNB, VMOVNT, VQMOVUNB or
+-- VQMOVUNT; else 0 (DDI0553, "VMOVN", "VQMOVN" and "VQMOVUN")
 abbrev pub narrowing_sign : NarrowingName → ℕ
 narrowing_sign narrowing.Unsigned = 1
 narrowing_sign name = 0

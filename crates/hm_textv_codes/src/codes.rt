@@ -392,7 +392,7 @@ fn code_bare(mnemonic: &[u8], o: &Operands) -> Option<u64>
     Some(of_vectors(base, 0, 0, o.second, o.first, o.second))
 }
 
-/// Rows of at most two operands whose first word tells the size of the elements: V13, V14, V18, V23, `vaddv` and `vctp`.
+/// Rows of at most two operands whose first word tells the size of the elements: V13, V14, V18, V23, `vaddv`, `vaddva` and `vctp`.
 fn code_elements(mnemonic: &[u8], o: &Operands) -> Option<u64>
     ensures elements { IsCodeOf (λ i. vector.V13 (v13.Elements i)) mnemonic.now o.now result }
     ensures v14 { IsCodeOf vector.V14 mnemonic.now o.now result }
