@@ -13,13 +13,13 @@ instr_in (Some x) = Some x.instr
 instr_in None = None
 
 -- the instruction that is kept at a place
-abbrev pub entry_at : Recent → ℕ → Option Decoded
-entry_at r k = instr_in (slice_index_or r.entries.items k None)
+abbrev pub entry_at : {N : ℕ} → Recent N → ℕ → Option Decoded
+entry_at r k = instr_in (slice_index_or r.entries k None)
 
 -- the instruction that is kept of an address
-abbrev pub kept_of : Recent → ℕ → Option Decoded
-kept_of r addr = entry_at r (place_of addr)
+abbrev pub kept_of : {N : ℕ} → Recent N → ℕ → Option Decoded
+kept_of {N} r addr = entry_at r (place_of N addr)
 
 -- the instruction that stands at an address is kept
-abbrev pub HasKept : Recent → (ℕ → ℕ) → ℕ → Type 0
+abbrev pub HasKept : {N : ℕ} → Recent N → (ℕ → ℕ) → ℕ → Type 0
 HasKept r flash addr = (d : Decoded) × (kept_of r addr ≡ Some d) × Stands flash addr (instr_of d)

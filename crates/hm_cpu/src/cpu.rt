@@ -246,7 +246,7 @@ pub fn thread_step(i: &Decoded, x: &mut Cpu) -> Result<(), Cause>
 }
 
 /// The vector instruction that stands at an address, where one does.
-pub fn vector_at(recent: &mut Recent, mem: &Mem, addr: u32) -> Option<Any>
+pub fn vector_at<const N: usize>(recent: &mut Recent<N>, mem: &Mem, addr: u32) -> Option<Any>
     ensures row { (listing : Listing) → IsListing (flash_at (memory_of mem.now)) listing → option_map row_of result ≡ vector_of (listing addr) }
     ensures room { IsSome result → addr + 4 < 2 ^ 32 }
 {

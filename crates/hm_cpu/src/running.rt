@@ -179,7 +179,7 @@ fn none_stands(fault: Fault, x: &Cpu) -> LetterEnd
 
 /// A step of the older instruction of what runs, or the fault where none stands at the program counter.
 #[inline(always)]
-fn older_step(recent: &mut Recent, x: &mut Cpu) -> Result<(), LetterEnd>
+fn older_step<const N: usize>(recent: &mut Recent<N>, x: &mut Cpu) -> Result<(), LetterEnd>
     requires count { (x.old.retired < 2 ^ 63) × (x.old.older_steps < 2 ^ 63) }
     requires position { IsPosition x.old }
     requires room { vec_capacity x.old.output ≡ most_output }
@@ -199,7 +199,7 @@ fn older_step(recent: &mut Recent, x: &mut Cpu) -> Result<(), LetterEnd>
 
 /// A step of the younger instruction of what runs.
 #[inline(never)]
-fn younger_step(recent: &mut Recent, x: &mut Cpu) -> Result<(), LetterEnd>
+fn younger_step<const N: usize>(recent: &mut Recent<N>, x: &mut Cpu) -> Result<(), LetterEnd>
     requires position { IsPosition x.old }
     ensures value { (listing : Listing) (s : Sched) → IsListing (flash_at (memory_of x.old.mem)) listing → IsSoundUnder s x.old
         → stepped result x.new ≡ step listing s Younger (nested_of x.old) }
@@ -308,7 +308,7 @@ fn rest_of(i: &Decoded, x: &mut Cpu) -> Result<(), LetterEnd>
 
 /// The older instruction of what runs to its end, in at most four steps, or the fault where none stands at the program counter.
 #[inline(always)]
-fn whole(recent: &mut Recent, x: &mut Cpu) -> Result<(), LetterEnd>
+fn whole<const N: usize>(recent: &mut Recent<N>, x: &mut Cpu) -> Result<(), LetterEnd>
     requires count { (x.old.retired < 2 ^ 61) × (x.old.older_steps < 2 ^ 61) }
     requires position { IsPosition x.old }
     requires room { vec_capacity x.old.output ≡ most_output }
@@ -333,7 +333,7 @@ fn whole(recent: &mut Recent, x: &mut Cpu) -> Result<(), LetterEnd>
 /// Err tells why it does not go on; the machine then stands as that step left it. Of the thread's instructions alone it is counted how many
 /// were retired and how many steps were done, in `x.retired` and `x.older_steps`. What is decoded is kept in `recent`, on which nothing depends.
 #[inline(always)]
-pub fn letter(l: u8, recent: &mut Recent, x: &mut Cpu) -> Result<(), LetterEnd>
+pub fn letter<const N: usize>(l: u8, recent: &mut Recent<N>, x: &mut Cpu) -> Result<(), LetterEnd>
     requires count { (x.old.retired < 2 ^ 61) × (x.old.older_steps < 2 ^ 61) }
     requires position { IsPosition x.old }
     requires room { vec_capacity x.old.output ≡ most_output }

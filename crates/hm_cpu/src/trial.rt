@@ -25,14 +25,14 @@ use hm_undo::{Held, undone_law};
 use hm_window::Window;
 
 /// Whether the first beat of the younger goes on where three of `v` are done: it breaks no rule and does not stop.
-fn follows(recent: &mut Recent, v: &Any, regs: &Regs, mem: &Mem) -> bool
+fn follows(v: &Any, regs: &Regs, mem: &Mem) -> bool
     requires context { IsTrue regs.now.fpca }
     requires room { regs.now.pc + 4 < 2 ^ 32 }
     ensures value { (listing : Listing) (output : List ℕ) (n steps : ℕ) → let m = memory_of mem.now in
         IsListing (flash_at m) listing → vector_of (listing regs.now.pc) ≡ Some (row_of v.now)
         → result ≡ goes_on (younger (core listing m.around) (standing 3 0 n steps (state_of regs.now m output))) }
 {
-    let Some(w) = vector_at(recent, mem, regs.pc + 4) else {
+    let Some(w) = vector_at(&mut Recent::<1>::new(), mem, regs.pc + 4) else {
         return false;
     };
     let at = Window { a: 3, b: 0 };
@@ -43,7 +43,7 @@ fn follows(recent: &mut Recent, v: &Any, regs: &Regs, mem: &Mem) -> bool
 }
 
 /// The same where two are done of `v`, whose third goes on too. Where it stores, that stays.
-fn goes(recent: &mut Recent, v: &Any, regs: &Regs, mem: &mut Mem) -> bool
+fn goes(v: &Any, regs: &Regs, mem: &mut Mem) -> bool
     requires context { IsTrue regs.now.fpca }
     requires room { regs.now.pc + 4 < 2 ^ 32 }
     ensures value { (listing : Listing) (output : List ℕ) (n steps : ℕ) → let m = memory_of mem.old in
@@ -53,21 +53,13 @@ fn goes(recent: &mut Recent, v: &Any, regs: &Regs, mem: &mut Mem) -> bool
 {
     let mut after = *regs;
     match beat(v, 2, &mut after, mem) {
-        Ok(()) => follows(recent, v, &after, mem),
+        Ok(()) => follows(v, &after, mem),
         Err(_) => false,
     }
 }
 
 /// The same, where so many bytes from an address on, and those of the rest, are put back.
-fn tried(
-    recent: &mut Recent,
-    v: &Any,
-    regs: &Regs,
-    mem: &mut Mem,
-    addr: u32,
-    len: u32,
-    rest: &[Span],
-) -> bool
+fn tried(v: &Any, regs: &Regs, mem: &mut Mem, addr: u32, len: u32, rest: &[Span]) -> bool
     requires context { IsTrue regs.now.fpca }
     requires room { regs.now.pc + 4 < 2 ^ 32 }
     ensures value { (listing : Listing) (output : List ℕ) (n steps : ℕ) → let m = memory_of mem.old in
@@ -79,19 +71,19 @@ fn tried(
 {
     if len > 0 {
         let held = Held::of(mem, addr);
-        let result = tried(recent, v, regs, mem, addr.wrapping_add(1), len - 1, rest);
+        let result = tried(v, regs, mem, addr.wrapping_add(1), len - 1, rest);
         held.put_back(mem);
         return result;
     }
     match rest {
-        [] => goes(recent, v, regs, mem),
-        [span, others @ ..] => tried(recent, v, regs, mem, span.addr, span.len, others),
+        [] => goes(v, regs, mem),
+        [span, others @ ..] => tried(v, regs, mem, span.addr, span.len, others),
     }
 }
 
 /// Whether the older instruction has two beats done and the younger none, the third goes on, and then the first of the younger, so that an
-/// `O` and then a `Y` would go on (DDI0553, "Beat-wise execution"). Nothing is changed but what is kept of what was decoded.
-pub fn ready(recent: &mut Recent, regs: &Regs, at: Window, mem: &mut Mem) -> bool
+/// `O` and then a `Y` would go on (DDI0553, "Beat-wise execution"). Nothing is changed.
+pub fn ready(regs: &Regs, at: Window, mem: &mut Mem) -> bool
     requires context { 0 < at.a → IsTrue regs.now.fpca }
     ensures value { (listing : Listing) (output : List ℕ) (n steps : ℕ) → let m = memory_of mem.old in
         IsListing (flash_at m) listing → result ≡ is_ready (core listing m.around) (standing at.a at.b n steps (state_of regs.now m output)) }
@@ -103,12 +95,12 @@ pub fn ready(recent: &mut Recent, regs: &Regs, at: Window, mem: &mut Mem) -> boo
     if at.b != 0 {
         return false;
     }
-    let Some(v) = vector_at(recent, mem, regs.pc) else {
+    let Some(v) = vector_at(&mut Recent::<1>::new(), mem, regs.pc) else {
         return false;
     };
     let touch = v.touch(2, regs);
     mem.sized();
-    let result = tried(recent, &v, regs, mem, 0, 0, touch.stores.as_slice());
+    let result = tried(&v, regs, mem, 0, 0, touch.stores.as_slice());
     mem.sized();
     undone_law();
     result

@@ -80,7 +80,7 @@ fn younger_beat(w: &Any, x: &mut Cpu) -> Result<(), StepEnd>
 }
 
 /// The next beat of the younger instruction, unless it breaks a rule.
-pub fn younger(recent: &mut Recent, x: &mut Cpu) -> Result<(), StepEnd>
+pub fn younger<const N: usize>(recent: &mut Recent<N>, x: &mut Cpu) -> Result<(), StepEnd>
     requires position { IsPosition x.old }
     ensures value { (listing : Listing) → IsListing (flash_at (memory_of x.old.mem)) listing
         → reached_younger result x.new ≡ younger (core listing (memory_of x.old.mem).around) (config_of x.old) }

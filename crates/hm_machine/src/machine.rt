@@ -40,12 +40,13 @@ use hm_window::Window;
 use std::alloc::Global;
 use std::marker::Model;
 
+/// A run keeps so many decoded instructions at most.
+const LOOP: usize = 1024;
+
 /// A machine in a run: an image in its memory, a schedule, and how far the run is.
 #[derive(Drop)]
 pub struct Machine {
     cpu: Cpu,
-    /// What was decoded of late; no run depends on it.
-    recent: Recent,
     schedule: Schedule,
     cursor: Cursor,
     ticks: u32,
@@ -117,7 +118,6 @@ impl Machine {
                 retired: 0,
                 older_steps: 0,
             },
-            recent: Recent::new(alloc)?,
             schedule: s,
             cursor: Cursor { line: 0, used: 0 },
             ticks: 0,
@@ -233,9 +233,9 @@ impl Machine {
         self.cpu.mem.tainted(addr)
     }
 
-    /// Does one tick of a run that goes on.
+    /// Does one tick of a run that goes on, with what it decoded of late.
     #[inline(always)]
-    fn advance(&mut self)
+    fn advance<const N: usize>(&mut self, recent: &mut Recent<N>)
         requires running { self.old.outcome ≡ None }
         requires lines { 0 < length self.old.schedule.lines }
         ensures next { (listing : Listing) (es : List Pointers) → IsListing (flash_at self.old.memory) listing
@@ -258,7 +258,7 @@ impl Machine {
             line.letters.as_slice(),
             &line.irq,
             may_enter,
-            &mut self.recent,
+            recent,
             &mut self.cpu,
         ) {
             Err(outcome) => self.outcome = Some(outcome),
@@ -272,8 +272,34 @@ impl Machine {
         }
     }
 
-    /// Does one tick. An ended machine answers the same again and changes nothing. It takes no memory.
+    /// Does one tick. An ended machine answers the same again and changes nothing. `recent` has what the run decoded of late, on which nothing depends.
     #[inline(always)]
+    fn tick_with<const N: usize>(&mut self, recent: &mut Recent<N>) -> Turn
+        ensures shows { (image : List Segment) (s : Sched) (t : ℕ) → Shows image s t self.old → Shows image s (suc t) self.new }
+        ensures ended { IsSome self.old.outcome → self.new ≡ self.old }
+        ensures turn { result ≡ tick_answer self.new.outcome }
+        // Under a schedule with lines.
+        ensures fewer { self.old.outcome ≡ None → 0 < length self.old.schedule.lines → length self.new.left < length self.old.left }
+        ensures once { self.old.outcome ≡ None → 0 < length self.old.schedule.lines → self.new.ticks ≡ self.old.ticks + 1 }
+        // Under one without lines, whose ticks were given one by one, the ticks are out.
+        ensures out { self.old.outcome ≡ None → length self.old.schedule.lines ≡ 0 → self.new ≡ record self.old { outcome = Some Outcome.OutOfTicks } }
+        ensures fixed { fixed_of self.new ≡ fixed_of self.old }
+    {
+        if let Some(outcome) = self.outcome {
+            return Turn::Ended(outcome);
+        }
+        if self.schedule.lines() == 0 {
+            self.outcome = Some(Outcome::OutOfTicks);
+            return Turn::Ended(Outcome::OutOfTicks);
+        }
+        self.advance(recent);
+        match self.outcome {
+            Some(outcome) => Turn::Ended(outcome),
+            None => Turn::Running,
+        }
+    }
+
+    /// Does one tick. An ended machine answers the same again and changes nothing. It takes no memory.
     pub fn tick(&mut self) -> Turn
         ensures shows { (image : List Segment) (s : Sched) (t : ℕ) → Shows image s t self.old → Shows image s (suc t) self.new }
         ensures ended { IsSome self.old.outcome → self.new ≡ self.old }
@@ -293,17 +319,16 @@ impl Machine {
         ensures taint { (image : List Segment) (s : Sched) (t : ℕ) (listing : Listing) → IsListing (flash_byte image) listing → Shows image s t self.old
             → TaintLies s (run listing image s (suc t)).entries (timed_of self.new).config.state }
     {
-        if let Some(outcome) = self.outcome {
-            return Turn::Ended(outcome);
-        }
-        if self.schedule.lines() == 0 {
-            self.outcome = Some(Outcome::OutOfTicks);
-            return Turn::Ended(Outcome::OutOfTicks);
-        }
-        self.advance();
-        match self.outcome {
-            Some(outcome) => Turn::Ended(outcome),
-            None => Turn::Running,
+        self.tick_with(&mut Recent::<1>::new())
+    }
+
+    /// Does so many ticks, with what was decoded of late.
+    fn pass_with<const N: usize>(&mut self, count: u32, recent: &mut Recent<N>)
+        ensures shows { (image : List Segment) (s : Sched) (t : ℕ) → Shows image s t self.old → Shows image s (t + count) self.new }
+        ensures fixed { fixed_of self.new ≡ fixed_of self.old }
+    {
+        for _k in 0..count {
+            let _turn = self.tick_with(recent);
         }
     }
 
@@ -314,8 +339,11 @@ impl Machine {
         // Flash, where a handler may store, and the schedule stay.
         ensures fixed { fixed_of self.new ≡ fixed_of self.old }
     {
-        for _k in 0..count {
-            let _turn = self.tick();
+        // to make a table takes as long as some fifty ticks
+        if count < 64 {
+            self.pass_with(count, &mut Recent::<1>::new());
+        } else {
+            self.pass_with(count, &mut Recent::<LOOP>::new());
         }
     }
 
@@ -330,7 +358,7 @@ impl Machine {
             return false;
         }
         let at = self.cpu.window;
-        ready(&mut self.recent, &self.cpu.regs, at, &mut self.cpu.mem)
+        ready(&self.cpu.regs, at, &mut self.cpu.mem)
     }
 
     /// Does one tick of these letters, of a machine that `bare` made. An ended machine answers as by `tick`. It takes no memory.
@@ -357,7 +385,7 @@ impl Machine {
             letters,
             &[0; 8],
             false,
-            &mut self.recent,
+            &mut Recent::<1>::new(),
             &mut self.cpu,
         ) {
             Err(outcome) => {
@@ -405,8 +433,9 @@ impl Machine {
         ensures taint { (image : List Segment) (s : Sched) (t : ℕ) (listing : Listing) → IsListing (flash_byte image) listing → Shows image s t self.old
             → TaintLies s (run_out listing image s).entries (timed_of self.new).config.state }
     {
+        let mut recent = Recent::<LOOP>::new();
         while self.is_running() {
-            let _turn = self.tick();
+            let _turn = self.tick_with(&mut recent);
         }
         match self.outcome {
             Some(outcome) => outcome,

@@ -26,7 +26,12 @@ use hm_window::ending;
 
 /// What a letter of a schedule does, the `step`-th of its tick.
 #[inline(always)]
-fn letter_at(step: u32, l: u8, recent: &mut Recent, x: &mut Cpu) -> Result<(), EarlyEnd>
+fn letter_at<const N: usize>(
+    step: u32,
+    l: u8,
+    recent: &mut Recent<N>,
+    x: &mut Cpu,
+) -> Result<(), EarlyEnd>
     requires count { (x.old.retired < 2 ^ 61) × (x.old.older_steps < 2 ^ 61) }
     requires position { IsPosition x.old }
     requires room { vec_capacity x.old.output ≡ most_output }
@@ -50,7 +55,11 @@ fn letter_at(step: u32, l: u8, recent: &mut Recent, x: &mut Cpu) -> Result<(), E
 
 /// The letters of a tick, one after another: as bytes, eight at most.
 #[inline(always)]
-fn letters(steps: &[u8], recent: &mut Recent, x: &mut Cpu) -> Result<(), EarlyEnd>
+fn letters<const N: usize>(
+    steps: &[u8],
+    recent: &mut Recent<N>,
+    x: &mut Cpu,
+) -> Result<(), EarlyEnd>
     requires few { length steps.now ≤ 8 }
     requires count { (x.old.retired < 2 ^ 60) × (x.old.older_steps < 2 ^ 60) }
     requires position { IsPosition x.old }
@@ -118,12 +127,12 @@ fn end_tick(
 /// A tick, by its number, its letters, its interrupts, and whether exceptions may enter at its end. The answer is whether one did, or how the run ends
 /// in the tick.
 #[inline(always)]
-pub fn tick(
+pub fn tick<const N: usize>(
     tick: u32,
     steps: &[u8],
     irq: &[u32; 8],
     entries: bool,
-    recent: &mut Recent,
+    recent: &mut Recent<N>,
     x: &mut Cpu,
 ) -> Result<bool, Outcome>
     requires few { length steps.now ≤ 8 }

@@ -1,10 +1,7 @@
-use Rattle.hm_cpu.proofs.Known.{kept_stands, kept_there}
+use Rattle.hm_cpu.proofs.Known.{kept_stands}
 use Rattle.hm_mem.specs.Memory.{memory_of, flash_at}
 use Rattle.hm_cpu.proofs.running.older_step.Goals as goal
 
-pub kept-requires : goal.kept-requires
-kept-requires c = record { there = kept_there c.keep.new.self (flash_at (memory_of c.args.x.now.mem)) c.args.x.now.regs.pc c.in_default.ensures.kept }
-
 pub step_of-requires-clause-stands : goal.step_of-requires-clause-stands
-step_of-requires-clause-stands c =
+step_of-requires-clause-stands g c =
     kept_stands c.keep.new.self (flash_at (memory_of c.args.x.now.mem)) c.args.x.now.regs.pc c.kept.result.now c.in_default.ensures.kept c.kept.ensures.value

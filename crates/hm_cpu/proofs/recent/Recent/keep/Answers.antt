@@ -8,7 +8,7 @@ use Rattle.hm_cpu.proofs.recent.Recent.keep.Goals as goal
 
 -- what is kept is known by its halfwords
 pub returns-then-holds-clause-kept : goal.returns-then-holds-clause-kept
-returns-then-holds-clause-kept c =
+returns-then-holds-clause-kept g c =
     let flash = flash_at (memory_of c.args.m.now) in
     let known = c.if-holds.ensures.code refl in
     let h = known.1 in

@@ -9,8 +9,8 @@ use Rattle.hm_mem.specs.Memory.{memory_of, flash_at}
 use Rattle.hm_cpu.proofs.recent.Recent.renew.Goals as goal
 
 -- the halfwords are those of what was decoded
-pub invariant_of-t-19 : goal.invariant_of-t-19
-invariant_of-t-19 c =
+pub invariant_of-self : goal.invariant_of-self
+invariant_of-self g c =
     let flash = flash_at (memory_of c.args.m.now) in
     let i = c.in_ok-fetch.field-0 in record {
       code = λ first second is.
@@ -22,10 +22,10 @@ invariant_of-t-19 c =
 
 -- what was decoded stands there, and is put into its place
 pub returns-clause-kept : goal.returns-clause-kept
-returns-clause-kept c =
+returns-clause-kept g c =
     let flash = flash_at (memory_of c.args.m.now) in (
       c.of-instr.result,
-      ap instr_in (get_or-set_at c.args.self.now.entries.items c.place_of.result _ _ _ (sym c.place_of.ensures.value)
+      ap instr_in (get_or-set_at c.args.self.now.entries c.place_of.result _ _ _ (sym c.place_of.ensures.value)
           (omega (arith, c.place_of.ensures.below, c.args.self.now.whole))),
       subst (λ (i : Instr). Stands flash c.args.addr i) (sym c.of-instr.ensures.instr) c.in_ok-fetch.ensures,
     )

@@ -129,3 +129,9 @@ returns-in-Err-clause-bare c =
       none = ap (λ (v : Shown). v.entries) c.self.view_is ∙ c.requires.bare.none;
       made = (made.0, made.1 ++ line ∷ [], returns-in-Err-clause-shows c made.0 made.1 line refl refl made.2);
     }
+
+pub returns-in-Err-clause-flash : goal.returns-in-Err-clause-flash
+returns-in-Err-clause-flash c = moved_flash c.in-Err.ensures.moves ∙ ap (λ (v : Shown). flash_at v.memory) c.self.view_is
+
+pub returns-in-Ok-clause-flash : goal.returns-in-Ok-clause-flash
+returns-in-Ok-clause-flash c = moved_flash c.in-Ok.ensures.moves ∙ ap (λ (v : Shown). flash_at v.memory) c.self.view_is

@@ -46,45 +46,48 @@ some_lines image s t m h none = ⊎_elim
     (λ empty. absurd (has_ticks image s t m h none (ap (λ (u : Sched). u.lines) (sym h.plan) ∙ nil_from_length m.schedule.lines empty)))
     (λ some. some) (eq-zero-or-pos (length m.schedule.lines))
 
-pub loop-self-smaller : goal.loop-self-smaller
-loop-self-smaller c =
-    let none : c.loop-self.self.outcome ≡ None = c.is_running.ensures.0 c.loop-self-test.true in
-    let less : turns_left c.tick-turn.new.self.outcome c.tick-turn.new.self.left < turns_left c.loop-self.self.outcome c.loop-self.self.left
-    = subst (λ (o : Option Outcome). turns_left c.tick-turn.new.self.outcome c.tick-turn.new.self.left < turns_left o c.loop-self.self.left) (sym none)
-    (smaller c.loop-self.self c.tick-turn.new.self none c.tick-turn.ensures.fewer c.tick-turn.ensures.once c.tick-turn.ensures.out) in
+pub loop-recent-smaller : goal.loop-recent-smaller
+loop-recent-smaller c =
+    let none : c.loop-recent.self.outcome ≡ None = c.is_running.ensures.0 c.loop-recent-test.true in
+    let less : turns_left c.tick_with-turn.new.self.outcome c.tick_with-turn.new.self.left < turns_left c.loop-recent.self.outcome c.loop-recent.self.left
+    = subst (λ (o : Option Outcome). turns_left c.tick_with-turn.new.self.outcome c.tick_with-turn.new.self.left < turns_left o c.loop-recent.self.left)
+    (sym none)
+    (smaller c.loop-recent.self c.tick_with-turn.new.self none c.tick_with-turn.ensures.fewer c.tick_with-turn.ensures.once c.tick_with-turn.ensures.out) in
     less
 
-pub loop-self-preserved : goal.loop-self-preserved
-loop-self-preserved c =
-    let none : c.loop-self.self.outcome ≡ None = c.is_running.ensures.0 c.loop-self-test.true in
+pub loop-recent-preserved : goal.loop-recent-preserved
+loop-recent-preserved c =
+    let none : c.loop-recent.self.outcome ≡ None = c.is_running.ensures.0 c.loop-recent-test.true in
     record {
       shows = λ image s t h shows.
-          let r = c.loop-self.invariant.shows image s t h shows in
-          let fewer = c.tick-turn.ensures.fewer none (some_lines image s r.0 _ r.2 none) in
-          (_, left_below image s r.0 _ r.2 none (omega (arith, fewer)), c.tick-turn.ensures.shows image s r.0 r.2);
+          let r = c.loop-recent.invariant.shows image s t h shows in
+          let fewer = c.tick_with-turn.ensures.fewer none (some_lines image s r.0 _ r.2 none) in
+          (_, left_below image s r.0 _ r.2 none (omega (arith, fewer)), c.tick_with-turn.ensures.shows image s r.0 r.2);
       turns =
-          let before = c.loop-self.invariant.turns in
-          let now = taken c.loop-self.self c.tick-turn.new.self none c.tick-turn.ensures.fewer c.tick-turn.ensures.once c.tick-turn.ensures.out in
+          let before = c.loop-recent.invariant.turns in
+          let now = taken c.loop-recent.self c.tick_with-turn.new.self none c.tick_with-turn.ensures.fewer c.tick_with-turn.ensures.once
+          c.tick_with-turn.ensures.out in
           omega (arith, before, now);
       ended = λ some.
-          let same = c.loop-self.invariant.ended some in
-          c.tick-turn.ensures.ended (subst (λ (m : Shown). IsSome m.outcome) (sym same) some) ∙ same;
+          let same = c.loop-recent.invariant.ended some in
+          c.tick_with-turn.ensures.ended (subst (λ (m : Shown). IsSome m.outcome) (sym same) some) ∙ same;
       out = λ running empty.
-          inr (over c.loop-self.self c.tick-turn.new.self none c.tick-turn.ensures.fewer c.tick-turn.ensures.once c.tick-turn.ensures.out _ empty
-          (c.loop-self.invariant.out running empty));
-      fixed = c.tick-turn.ensures.fixed ∙ c.loop-self.invariant.fixed;
+          inr (over c.loop-recent.self c.tick_with-turn.new.self none c.tick_with-turn.ensures.fewer c.tick_with-turn.ensures.once
+          c.tick_with-turn.ensures.out _ empty
+          (c.loop-recent.invariant.out running empty));
+      fixed = c.tick_with-turn.ensures.fixed ∙ c.loop-recent.invariant.fixed;
     }
 
 pub returns-clause-shows : goal.returns-clause-shows
 returns-clause-shows c image s t shows = decide (nat_le t (length (ticks_of s.lines)))
     (λ within.
     let h : t ≤ length (ticks_of s.lines) = grind (arith, nat_tests, within) in
-    let r = c.loop-self.invariant.shows image s t h shows in
+    let r = c.loop-recent.invariant.shows image s t h shows in
     shows_end image s r.0 _ _ c.in-Some.outcome (ap (λ (v : Shown). v.outcome) (sym c.self.view_is) ∙ c.in-Some.is) r.1 r.2)
     (λ past.
     let h : length (ticks_of s.lines) ≤ t = grind (arith, nat_tests, past) in
     let over = shows_past image s t _ h shows in
-    subst (Shows image s (length (ticks_of s.lines))) (sym (c.loop-self.invariant.ended over.0)) over.1)
+    subst (Shows image s (length (ticks_of s.lines))) (sym (c.loop-recent.invariant.ended over.0)) over.1)
 
 pub returns-clause-plain : goal.returns-clause-plain
 returns-clause-plain c image n t listing is shows = plain_report image n _ (returns-clause-shows c image (plain n) t shows) listing is
@@ -102,7 +105,7 @@ pub returns-clause-position : goal.returns-clause-position
 returns-clause-position c image s t listing is shows = shown_position image s (length (ticks_of s.lines)) _ (returns-clause-shows c image s t shows) listing is
 
 pub returns-clause-fixed : goal.returns-clause-fixed
-returns-clause-fixed c = c.loop-self.invariant.fixed
+returns-clause-fixed c = c.loop-recent.invariant.fixed
 
 -- where a machine has ended that is the first one, or the first one out of ticks, it is the other where the first one goes on
 ended_so : (m first : Shown) (o : Outcome) → m.outcome ≡ Some o → first.outcome ≡ None → (m ≡ first) ⊎ (m ≡ record first { outcome = Some outcome.OutOfTicks })
@@ -112,4 +115,4 @@ ended_so m first o is none (inr ended) = ended
 
 pub returns-clause-out : goal.returns-clause-out
 returns-clause-out c running empty =
-    ended_so _ _ c.in-Some.outcome (ap (λ (v : Shown). v.outcome) (sym c.self.view_is) ∙ c.in-Some.is) running (c.loop-self.invariant.out running empty)
+    ended_so _ _ c.in-Some.outcome (ap (λ (v : Shown). v.outcome) (sym c.self.view_is) ∙ c.in-Some.is) running (c.loop-recent.invariant.out running empty)

@@ -8,8 +8,8 @@ use Rattle.hm_machine.specs.Shown.{Shows, fixed_of}
 use Rattle.std.proofs.Common.{List}
 use Rattle.hm_machine.proofs.machine.Machine.run.Given as goal
 
-abbrev pub invariant-loop-self : goal.invariant-loop-self
-invariant-loop-self l = record {
+abbrev pub invariant-loop-recent : goal.invariant-loop-recent
+invariant-loop-recent l = record {
   shows : (image : List Segment) (s : Sched) (t : ℕ) → t ≤ length (ticks_of s.lines) → Shows image s t l.initial.self
       → (u : ℕ) × (u ≤ length (ticks_of s.lines)) × Shows image s u l.self;
   turns : l.self.ticks + length l.self.left ≤ l.initial.self.ticks + length l.initial.self.left;
@@ -19,5 +19,5 @@ invariant-loop-self l = record {
   fixed : fixed_of l.self ≡ fixed_of l.initial.self;
 }
 
-abbrev pub decreases-loop-self : goal.decreases-loop-self
-decreases-loop-self l = turns_left l.self.outcome l.self.left
+abbrev pub decreases-loop-recent : goal.decreases-loop-recent
+decreases-loop-recent l = turns_left l.self.outcome l.self.left
