@@ -7,7 +7,8 @@ use Rattle.hm_cpu.specs.declared.decoded.Decoded.{Decoded}
 use Rattle.hm_cpu.specs.declared.recent.Recent.{Recent}
 
 -- it stands there
-pub kept_stands : {N : ℕ} (r : Recent N) (flash : ℕ → ℕ) (addr : ℕ) (d : Decoded) → HasKept r flash addr → kept_of r addr ≡ Some d → Stands flash addr (instr_of d)
+pub kept_stands : {N : ℕ} (r : Recent N) (flash : ℕ → ℕ) (addr : ℕ) (d : Decoded)
+    → HasKept r flash addr → kept_of r addr ≡ Some d → Stands flash addr (instr_of d)
 kept_stands r flash addr d h e =
     let there : Some h.0 ≡ Some d = sym h.1 ∙ e in
     let same : h.0 ≡ d = cc in

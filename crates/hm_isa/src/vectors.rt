@@ -728,7 +728,7 @@ pub enum V21 {
     Tail(Tail),
 }
 
-/// `vaddv`, as `vaddva.s8 rl,qm`: the elements of a vector, added up. V22: DDI0553, "VADDV".
+/// `vaddv`, `vaddva`, as `vaddva.s8 rl,qm`: the elements of a vector, added up. V22: DDI0553, "VADDV".
 #[derive(Clone, Copy)]
 pub struct Sum {
     /// 1 for unsigned elements.
@@ -743,7 +743,7 @@ pub struct Sum {
     pub m: QRegister,
 }
 
-/// `vmladav`, as `vmladava.s8 rl,qn,qm`: products of elements, added up. V22: DDI0553, "VMLADAV".
+/// `vmladav`, `vmladava`, as `vmladava.s8 rl,qn,qm`: products of elements, added up. V22: DDI0553, "VMLADAV".
 #[derive(Clone, Copy)]
 pub struct Dot {
     /// The size of the elements.
@@ -760,7 +760,7 @@ pub struct Dot {
     pub m: QRegister,
 }
 
-/// `vaddlv`, as `vaddlva.s32 rl,rh,qm`: words, added up in 64 bits. V22: DDI0553, "VADDLV".
+/// `vaddlv`, `vaddlva`, as `vaddlva.s32 rl,rh,qm`: words, added up in 64 bits. V22: DDI0553, "VADDLV".
 #[derive(Clone, Copy)]
 pub struct LongSum {
     /// 1 for unsigned elements.
@@ -775,7 +775,7 @@ pub struct LongSum {
     pub m: QRegister,
 }
 
-/// `vmlaldav`, as `vmlaldava.s16 rl,rh,qn,qm`: products, added up in 64 bits. V22: DDI0553, "VMLALDAV".
+/// `vmlaldav`, `vmlaldava`, as `vmlaldava.s16 rl,rh,qn,qm`: products, added up in 64 bits. V22: DDI0553, "VMLALDAV".
 #[derive(Clone, Copy)]
 pub struct LongDot {
     /// 1 for unsigned elements.

@@ -1,9 +1,9 @@
--- A text without the first of its lines that is the system's, as a loop finds it.
+-- What stands behind the first line of a text, as code cuts it.
 use Rattle.std.proofs.Common.{◌≡◌, ℕ, ◌-◌, ◌==◌, Bool, true, false, arith, ap, refl, sym, ◌∙◌, List, [], ◌∷◌, drop}
 use Rattle.std.proofs.Common.{length, take}
 use Rattle.std.proofs.lemmas.List.{take_rest}
 use Rattle.hm_text_base.specs.Spans.{span}
-use Rattle.hm_journal.specs.Formats.{behind_line, without}
+use Rattle.hm_journal.specs.Formats.{behind_line}
 
 -- the first end of a line is the first byte 10
 pub behind_is : (bs : List ℕ) → behind_line bs ≡ drop 1 (span 10 bs).1

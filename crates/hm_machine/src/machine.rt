@@ -40,8 +40,8 @@ use hm_window::Window;
 use std::alloc::Global;
 use std::marker::Model;
 
-/// A run keeps so many decoded instructions at most.
-const LOOP: usize = 1024;
+/// A run has a table of so many places for decoded instructions.
+const PLACES: usize = 1024;
 
 /// A machine in a run: an image in its memory, a schedule, and how far the run is.
 #[derive(Drop)]
@@ -332,6 +332,15 @@ impl Machine {
         }
     }
 
+    /// Does so many ticks, with a table: apart from `pass`, so that a few ticks leave no room on the stack for one.
+    #[inline(never)]
+    fn pass_with_table(&mut self, count: u32)
+        ensures shows { (image : List Segment) (s : Sched) (t : ℕ) → Shows image s t self.old → Shows image s (t + count) self.new }
+        ensures fixed { fixed_of self.new ≡ fixed_of self.old }
+    {
+        self.pass_with(count, &mut Recent::<PLACES>::new());
+    }
+
     /// Does so many ticks; of a run that has ended, none. It takes no memory.
     pub fn pass(&mut self, count: u32)
         // Each is a tick more of the run.
@@ -343,7 +352,7 @@ impl Machine {
         if count < 64 {
             self.pass_with(count, &mut Recent::<1>::new());
         } else {
-            self.pass_with(count, &mut Recent::<LOOP>::new());
+            self.pass_with_table(count);
         }
     }
 
@@ -433,7 +442,7 @@ impl Machine {
         ensures taint { (image : List Segment) (s : Sched) (t : ℕ) (listing : Listing) → IsListing (flash_byte image) listing → Shows image s t self.old
             → TaintLies s (run_out listing image s).entries (timed_of self.new).config.state }
     {
-        let mut recent = Recent::<LOOP>::new();
+        let mut recent = Recent::<PLACES>::new();
         while self.is_running() {
             let _turn = self.tick_with(&mut recent);
         }

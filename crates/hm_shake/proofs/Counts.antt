@@ -169,7 +169,7 @@ module _ (ends : ℕ → Ended) where
       let late = noted_later n before.0 xs ys before.1 rest before.3 on.2 in
       ((before.0, let lt = before.1 in omega arith, before.2 ∙ sym same, late), noted_order n xs ys rest order.1 on.2)
 
-  -- NO RUN, and one run more
+  -- ONE RUN MORE
   pub next_counted : (n : ℕ) (xs ys : List Found) → AreCounted ends n xs → IsNoted (ends n) n xs ys → AreCounted ends (n + 1) ys
   next_counted n xs ys is noted =
       let more : suc n ≡ n + 1 = omega arith in
