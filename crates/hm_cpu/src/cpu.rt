@@ -3,7 +3,7 @@
 //! Results are tested for Err first, and `?` is not used: so a letter's way is one run of code without copies of results. What is rare stands
 //! in functions of its own, which are not inlined.
 
-ghost use Rattle.std.specs.Prelude.{◌≡◌, ℕ, ◌+◌, ◌^◌, ◌<◌, not, List, IsSome, IsTrue, OnErr, OnOk, Ok, Some, option_map};
+ghost use Rattle.std.specs.Prelude.{◌≡◌, ℕ, ◌+◌, ◌^◌, ◌<◌, not, List, IsSome, IsTrue, OnErr, OnOk, Ok, Some, option_map, length};
 ghost use Rattle.std.specs.Vec.{vec_capacity};
 ghost use Rattle.hm_codes.specs.Listing.{Listing, IsListing};
 ghost use Rattle.hm_exec.specs.Families.{row_of};
@@ -23,7 +23,7 @@ ghost use Rattle.hm_thumb.specs.Rows.{made};
 ghost use Rattle.hm_whole.specs.Whole.{executed as executed_by, scalar_in_machine};
 
 use crate::decoded::Decoded;
-use crate::recent::Recent;
+use crate::recent::Slot;
 use crate::service::breakpoint;
 use hm_base::Stop;
 use hm_beat::BeatWise;
@@ -246,12 +246,14 @@ pub fn thread_step(i: &Decoded, x: &mut Cpu) -> Result<(), Cause>
 }
 
 /// The vector instruction that stands at an address, where one does.
-pub fn vector_at<const N: usize>(recent: &mut Recent<N>, mem: &Mem, addr: u32) -> Option<Any>
+pub fn vector_at(recent: &mut [Slot], mem: &Mem, addr: u32) -> Option<Any>
+    requires some { 0 < length recent.old }
     ensures row { (listing : Listing) → IsListing (flash_at (memory_of mem.now)) listing → option_map row_of result ≡ vector_of (listing addr) }
     ensures room { IsSome result → addr + 4 < 2 ^ 32 }
+    ensures places { length recent.new ≡ length recent.old }
 {
-    match recent.keep(mem, addr) {
-        Ok(()) => recent.kept(addr).as_vector(),
+    match Slot::keep(recent, mem, addr) {
+        Ok(()) => Slot::kept(recent, addr).as_vector(),
         Err(_) => None,
     }
 }

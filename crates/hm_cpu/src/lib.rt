@@ -11,7 +11,7 @@ mod trial;
 mod younger;
 
 pub use cpu::Cpu;
-pub use recent::Recent;
+pub use recent::Slot;
 pub use running::letter;
 pub use service::OUTPUT;
 pub use step_ends::{LetterEnd, StepEnd};

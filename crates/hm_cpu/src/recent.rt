@@ -1,7 +1,7 @@
 //! Instructions that a run decoded of late, so that it decodes those of a loop once.
 
-ghost use Rattle.std.specs.Prelude.{◌≡◌, ℕ, ◌%◌, ◌<◌, [], ◌∷◌, length, Err, IfErr, IfSome, IsSome, IsTrue, OnOk, Some};
-ghost use Rattle.hm_codes.specs.Listing.{HalvesStand, IsFetched};
+ghost use Rattle.std.specs.Prelude.{◌≡◌, ℕ, ◌%◌, ◌<◌, [], ◌∷◌, length, Err, IfErr, IfOk, IfSome, IsSome, IsTrue, OnOk, Some};
+ghost use Rattle.hm_codes.specs.Listing.{HalvesStand, IsFetched, Stands};
 ghost use Rattle.hm_cpu.specs.Decodings.{instr_of};
 ghost use Rattle.hm_cpu.specs.Halves.{code_of};
 ghost use Rattle.hm_cpu.specs.Slots.{place_of};
@@ -22,12 +22,10 @@ struct Entry {
     pub ghost code: { (first second : ℕ) → halves ≡ Some (first, second) → halfwords (instr_of instr) ≡ code_of first second },
 }
 
-/// The instructions that a run decoded of late, `N` at most: each address has a place for one, which it shares with others.
-#[derive(Drop)]
-pub struct Recent<const N: usize> {
-    entries: [Option<Entry>; N],
-    pub ghost whole: { length entries ≡ N },
-    pub ghost some: { 0 < N },
+/// A place for an instruction that a run decoded of late. Of several each address has one, which it shares with others.
+#[derive(Clone, Copy)]
+pub struct Slot {
+    entry: Option<Entry>,
 }
 
 /// The place of an address, of so many.
@@ -48,25 +46,19 @@ fn halves_at(m: &Mem, addr: u32) -> Option<(u16, u16)>
     m.halves(addr)
 }
 
-impl<const N: usize> Recent<N> {
-    ghost use Rattle.hm_cpu.specs.Kept.{entry_at, kept_of, HasKept};
+impl Slot {
+    ghost use Rattle.hm_cpu.specs.Kept.{instr_in, kept_of, HasKept};
 
-    /// None yet.
-    #[inline(always)]
-    pub fn new() -> Recent<N>
-        requires some { 0 < N }
-    {
-        Recent { entries: [None; N] }
-    }
+    /// One with no instruction yet.
+    pub const EMPTY: Slot = Slot { entry: None };
 
-    /// Whether the instruction that is kept at a place is that of these halfwords, where there are two.
+    /// Whether the instruction that is kept in a place is that of these halfwords, where there are two.
     #[inline(always)]
-    fn holds(&self, place: usize, halves: Option<(u16, u16)>) -> bool
-        requires below { place < N }
-        ensures code { IsTrue result → (d : Decoded) × (h : ℕ × ℕ) × (entry_at self.now place ≡ Some d) × (halves ≡ Some h)
+    fn holds(&self, halves: Option<(u16, u16)>) -> bool
+        ensures code { IsTrue result → (d : Decoded) × (h : ℕ × ℕ) × (instr_in self.now ≡ Some d) × (halves ≡ Some h)
             × (halfwords (instr_of d) ≡ code_of h.0 h.1) }
     {
-        let Some(entry) = &self.entries[place] else {
+        let Some(entry) = &self.entry else {
             return false;
         };
         match (entry.halves, halves) {
@@ -75,38 +67,43 @@ impl<const N: usize> Recent<N> {
         }
     }
 
-    /// Keeps the instruction that stands at an address, or tells the fault where none does. One that is kept is not decoded anew.
-    #[inline(always)]
-    pub(crate) fn keep(&mut self, m: &Mem, addr: u32) -> Result<(), Fault>
-        ensures kept { OnOk result (HasKept self.new (flash_at (memory_of m.now)) addr) }
-        ensures fault { IfErr result (λ fault. IsFetched (flash_at (memory_of m.now)) addr (Err fault)) }
-    {
-        if self.holds(place_of(N, addr), halves_at(m, addr)) {
-            return Ok(());
-        }
-        self.renew(m, addr)
-    }
-
-    /// Decodes the instruction that stands at an address and keeps it, or tells the fault where none does: apart from `keep`, so that a look-up
-    /// that finds is small.
+    /// The instruction that stands at an address, decoded, or the fault where none does: apart from `keep`, so that a look-up that finds is small.
     #[cold]
     #[inline(never)]
-    fn renew(&mut self, m: &Mem, addr: u32) -> Result<(), Fault>
-        ensures kept { OnOk result (HasKept self.new (flash_at (memory_of m.now)) addr) }
+    fn decoded(m: &Mem, addr: u32) -> Result<Slot, Fault>
+        ensures kept { IfOk result (λ slot. (d : Decoded) × (instr_in slot ≡ Some d) × Stands (flash_at (memory_of m.now)) addr (instr_of d)) }
         ensures fault { IfErr result (λ fault. IsFetched (flash_at (memory_of m.now)) addr (Err fault)) }
     {
         let halves = halves_at(m, addr);
         let instr = Decoded::of(fetch(m, addr)?);
-        self.entries[place_of(N, addr)] = Some(Entry { halves, instr });
+        Ok(Slot {
+            entry: Some(Entry { halves, instr }),
+        })
+    }
+
+    /// Keeps the instruction that stands at an address, or tells the fault where none does. One that is kept is not decoded anew.
+    #[inline(always)]
+    pub(crate) fn keep(recent: &mut [Slot], m: &Mem, addr: u32) -> Result<(), Fault>
+        requires some { 0 < length recent.old }
+        ensures kept { OnOk result (HasKept recent.new (flash_at (memory_of m.now)) addr) }
+        ensures fault { IfErr result (λ fault. IsFetched (flash_at (memory_of m.now)) addr (Err fault)) }
+        ensures places { length recent.new ≡ length recent.old }
+    {
+        let place = place_of(recent.len(), addr);
+        if recent[place].holds(halves_at(m, addr)) {
+            return Ok(());
+        }
+        recent[place] = Slot::decoded(m, addr)?;
         Ok(())
     }
 
     /// The instruction that is kept of an address.
-    pub(crate) fn kept(&self, addr: u32) -> &Decoded
-        requires there { IsSome (kept_of self.now addr) }
-        ensures value { kept_of self.now addr ≡ Some result.now }
+    pub(crate) fn kept(recent: &[Slot], addr: u32) -> &Decoded
+        requires some { 0 < length recent.now }
+        requires there { IsSome (kept_of recent.now addr) }
+        ensures value { kept_of recent.now addr ≡ Some result.now }
     {
-        match &self.entries[place_of(N, addr)] {
+        match &recent[place_of(recent.len(), addr)].entry {
             Some(entry) => &entry.instr,
             None => unreachable!(),
         }

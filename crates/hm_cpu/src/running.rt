@@ -3,7 +3,7 @@
 //! Results are tested for Err first, and `?` is not used: so a letter's way is one run of code without copies of results. What is rare (handlers,
 //! the younger, a fault) stands in functions of its own, which are not inlined.
 
-ghost use Rattle.std.specs.Prelude.{◌≡◌, ◌+◌, ◌^◌, ◌<◌, ◌≤◌, not, List, ◌∷◌, map, Err, IsTrue, OnOk, Ok};
+ghost use Rattle.std.specs.Prelude.{◌≡◌, ◌+◌, ◌^◌, ◌<◌, ◌≤◌, not, List, ◌∷◌, map, Err, IsTrue, OnOk, Ok, length};
 ghost use Rattle.std.specs.Vec.{vec_capacity};
 ghost use Rattle.hm_codes.specs.Listing.{IsFetched, IsListing, Listing, Stands};
 ghost use Rattle.hm_cpu.specs.Cpus.{config_of, nested_of, returns, state_in, stepped, AreEntered, CountsOne, IsHandler, IsPosition, IsSoundUnderSome};
@@ -22,7 +22,7 @@ ghost use Rattle.hm_thumb.specs.Families.{is_vector_row};
 
 use crate::cpu::{Cpu, execute, other_step, thread_step, vector_step};
 use crate::decoded::{Decoded, Whole};
-use crate::recent::Recent;
+use crate::recent::Slot;
 use crate::step_ends::{LetterEnd, StepEnd};
 use crate::younger::younger;
 use hm_base::{Fault, Stop};
@@ -179,7 +179,8 @@ fn none_stands(fault: Fault, x: &Cpu) -> LetterEnd
 
 /// A step of the older instruction of what runs, or the fault where none stands at the program counter.
 #[inline(always)]
-fn older_step<const N: usize>(recent: &mut Recent<N>, x: &mut Cpu) -> Result<(), LetterEnd>
+fn older_step(recent: &mut [Slot], x: &mut Cpu) -> Result<(), LetterEnd>
+    requires some { 0 < length recent.old }
     requires count { (x.old.retired < 2 ^ 63) × (x.old.older_steps < 2 ^ 63) }
     requires position { IsPosition x.old }
     requires room { vec_capacity x.old.output ≡ most_output }
@@ -190,16 +191,18 @@ fn older_step<const N: usize>(recent: &mut Recent<N>, x: &mut Cpu) -> Result<(),
     ensures moves { KeepsFlash x.old x.new }
     ensures position { OnOk result (IsPosition x.new) }
     ensures count { CountsOne x.old x.new }
+    ensures places { length recent.new ≡ length recent.old }
 {
-    if let Err(fault) = recent.keep(&x.mem, x.regs.pc) {
+    if let Err(fault) = Slot::keep(recent, &x.mem, x.regs.pc) {
         return Err(none_stands(fault, x));
     }
-    step_of(recent.kept(x.regs.pc), x)
+    step_of(Slot::kept(recent, x.regs.pc), x)
 }
 
 /// A step of the younger instruction of what runs.
 #[inline(never)]
-fn younger_step<const N: usize>(recent: &mut Recent<N>, x: &mut Cpu) -> Result<(), LetterEnd>
+fn younger_step(recent: &mut [Slot], x: &mut Cpu) -> Result<(), LetterEnd>
+    requires some { 0 < length recent.old }
     requires position { IsPosition x.old }
     ensures value { (listing : Listing) (s : Sched) → IsListing (flash_at (memory_of x.old.mem)) listing → IsSoundUnder s x.old
         → stepped result x.new ≡ step listing s Younger (nested_of x.old) }
@@ -207,6 +210,7 @@ fn younger_step<const N: usize>(recent: &mut Recent<N>, x: &mut Cpu) -> Result<(
     ensures moves { KeepsFlash x.old x.new }
     ensures position { OnOk result (IsPosition x.new) }
     ensures count { CountsOne x.old x.new }
+    ensures places { length recent.new ≡ length recent.old }
 {
     if let Err(end) = younger(recent, x) {
         return Err(LetterEnd::Step(end));
@@ -308,7 +312,8 @@ fn rest_of(i: &Decoded, x: &mut Cpu) -> Result<(), LetterEnd>
 
 /// The older instruction of what runs to its end, in at most four steps, or the fault where none stands at the program counter.
 #[inline(always)]
-fn whole<const N: usize>(recent: &mut Recent<N>, x: &mut Cpu) -> Result<(), LetterEnd>
+fn whole(recent: &mut [Slot], x: &mut Cpu) -> Result<(), LetterEnd>
+    requires some { 0 < length recent.old }
     requires count { (x.old.retired < 2 ^ 61) × (x.old.older_steps < 2 ^ 61) }
     requires position { IsPosition x.old }
     requires room { vec_capacity x.old.output ≡ most_output }
@@ -319,11 +324,12 @@ fn whole<const N: usize>(recent: &mut Recent<N>, x: &mut Cpu) -> Result<(), Lett
     ensures moves { KeepsFlash x.old x.new }
     ensures position { OnOk result (IsPosition x.new) }
     ensures count { (x.new.retired ≤ x.old.retired + 4) × (x.new.older_steps ≤ x.old.older_steps + 4) }
+    ensures places { length recent.new ≡ length recent.old }
 {
-    if let Err(fault) = recent.keep(&x.mem, x.regs.pc) {
+    if let Err(fault) = Slot::keep(recent, &x.mem, x.regs.pc) {
         return Err(none_stands(fault, x));
     }
-    rest_of(recent.kept(x.regs.pc), x)
+    rest_of(Slot::kept(recent, x.regs.pc), x)
 }
 
 /// What a letter of a schedule does, of the thread or of the newest handler: `O` is a step of the older instruction, its next beat or the whole
@@ -333,7 +339,8 @@ fn whole<const N: usize>(recent: &mut Recent<N>, x: &mut Cpu) -> Result<(), Lett
 /// Err tells why it does not go on; the machine then stands as that step left it. Of the thread's instructions alone it is counted how many
 /// were retired and how many steps were done, in `x.retired` and `x.older_steps`. What is decoded is kept in `recent`, on which nothing depends.
 #[inline(always)]
-pub fn letter<const N: usize>(l: u8, recent: &mut Recent<N>, x: &mut Cpu) -> Result<(), LetterEnd>
+pub fn letter(l: u8, recent: &mut [Slot], x: &mut Cpu) -> Result<(), LetterEnd>
+    requires some { 0 < length recent.old }
     requires count { (x.old.retired < 2 ^ 61) × (x.old.older_steps < 2 ^ 61) }
     requires position { IsPosition x.old }
     requires room { vec_capacity x.old.output ≡ most_output }
@@ -344,6 +351,7 @@ pub fn letter<const N: usize>(l: u8, recent: &mut Recent<N>, x: &mut Cpu) -> Res
     ensures moves { KeepsFlash x.old x.new }
     ensures position { OnOk result (IsPosition x.new) }
     ensures count { (x.new.retired ≤ x.old.retired + 4) × (x.new.older_steps ≤ x.old.older_steps + 4) }
+    ensures places { length recent.new ≡ length recent.old }
 {
     if l == b'O' {
         return older_step(recent, x);

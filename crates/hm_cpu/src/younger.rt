@@ -1,6 +1,6 @@
 //! The steps of the younger of two vector instructions.
 
-ghost use Rattle.std.specs.Prelude.{◌≡◌, ℕ, ◌+◌, ◌<◌, ◌≤◌, List, IsTrue, Some, None};
+ghost use Rattle.std.specs.Prelude.{◌≡◌, ℕ, ◌+◌, ◌<◌, ◌≤◌, List, IsTrue, Some, None, length};
 ghost use Rattle.hm_codes.specs.Listing.{Listing, IsListing};
 ghost use Rattle.hm_exec.specs.Families.{row_of};
 ghost use Rattle.hm_cpu.specs.Cpus.{config_of, step_ended, reached_younger, state_in, CountsNone, IsPosition, Keeps};
@@ -12,7 +12,7 @@ ghost use Rattle.hm_window.specs.Overlap.{first_rule};
 ghost use Rattle.hm_state.specs.State.{State, state_of};
 
 use crate::cpu::{Cpu, beat, vector_at};
-use crate::recent::Recent;
+use crate::recent::Slot;
 use crate::step_ends::StepEnd;
 use hm_base::Stop;
 use hm_exec::{Any, refuse};
@@ -80,12 +80,14 @@ fn younger_beat(w: &Any, x: &mut Cpu) -> Result<(), StepEnd>
 }
 
 /// The next beat of the younger instruction, unless it breaks a rule.
-pub fn younger<const N: usize>(recent: &mut Recent<N>, x: &mut Cpu) -> Result<(), StepEnd>
+pub fn younger(recent: &mut [Slot], x: &mut Cpu) -> Result<(), StepEnd>
+    requires some { 0 < length recent.old }
     requires position { IsPosition x.old }
     ensures value { (listing : Listing) → IsListing (flash_at (memory_of x.old.mem)) listing
         → reached_younger result x.new ≡ younger (core listing (memory_of x.old.mem).around) (config_of x.old) }
     ensures kept { Keeps x.old x.new }
     ensures count { CountsNone x.old x.new }
+    ensures places { length recent.new ≡ length recent.old }
 {
     let Some(v) = vector_at(recent, &x.mem, x.regs.pc) else {
         return Err(StepEnd::Broken(Rule::NotVector));

@@ -28,7 +28,7 @@ use crate::memory_text::memory_text;
 use crate::start::Start;
 use crate::tick::tick;
 use hm_base::{Image, OutOfMemory, SRAM_START};
-use hm_cpu::{Cpu, OUTPUT, Recent, ready};
+use hm_cpu::{Cpu, OUTPUT, Slot, ready};
 use hm_decode::fetch;
 use hm_exc::{Activation, Acts};
 use hm_isa::Instr;
@@ -235,7 +235,8 @@ impl Machine {
 
     /// Does one tick of a run that goes on, with what it decoded of late.
     #[inline(always)]
-    fn advance<const N: usize>(&mut self, recent: &mut Recent<N>)
+    fn advance(&mut self, recent: &mut [Slot])
+        requires some { 0 < length recent.old }
         requires running { self.old.outcome ≡ None }
         requires lines { 0 < length self.old.schedule.lines }
         ensures next { (listing : Listing) (es : List Pointers) → IsListing (flash_at self.old.memory) listing
@@ -248,6 +249,7 @@ impl Machine {
         ensures flash { flash_at self.new.memory ≡ flash_at self.old.memory }
         ensures plan { self.new.schedule ≡ self.old.schedule }
         ensures fixed { fixed_of self.new ≡ fixed_of self.old }
+        ensures places { length recent.new ≡ length recent.old }
     {
         self.ticks += 1;
         let cursor = self.cursor;
@@ -274,7 +276,8 @@ impl Machine {
 
     /// Does one tick. An ended machine answers the same again and changes nothing. `recent` has what the run decoded of late, on which nothing depends.
     #[inline(always)]
-    fn tick_with<const N: usize>(&mut self, recent: &mut Recent<N>) -> Turn
+    fn tick_with(&mut self, recent: &mut [Slot]) -> Turn
+        requires some { 0 < length recent.old }
         ensures shows { (image : List Segment) (s : Sched) (t : ℕ) → Shows image s t self.old → Shows image s (suc t) self.new }
         ensures ended { IsSome self.old.outcome → self.new ≡ self.old }
         ensures turn { result ≡ tick_answer self.new.outcome }
@@ -284,6 +287,7 @@ impl Machine {
         // Under one without lines, whose ticks were given one by one, the ticks are out.
         ensures out { self.old.outcome ≡ None → length self.old.schedule.lines ≡ 0 → self.new ≡ record self.old { outcome = Some Outcome.OutOfTicks } }
         ensures fixed { fixed_of self.new ≡ fixed_of self.old }
+        ensures places { length recent.new ≡ length recent.old }
     {
         if let Some(outcome) = self.outcome {
             return Turn::Ended(outcome);
@@ -319,13 +323,15 @@ impl Machine {
         ensures taint { (image : List Segment) (s : Sched) (t : ℕ) (listing : Listing) → IsListing (flash_byte image) listing → Shows image s t self.old
             → TaintLies s (run listing image s (suc t)).entries (timed_of self.new).config.state }
     {
-        self.tick_with(&mut Recent::<1>::new())
+        self.tick_with(&mut [Slot::EMPTY])
     }
 
     /// Does so many ticks, with what was decoded of late.
-    fn pass_with<const N: usize>(&mut self, count: u32, recent: &mut Recent<N>)
+    fn pass_with(&mut self, count: u32, recent: &mut [Slot])
+        requires some { 0 < length recent.old }
         ensures shows { (image : List Segment) (s : Sched) (t : ℕ) → Shows image s t self.old → Shows image s (t + count) self.new }
         ensures fixed { fixed_of self.new ≡ fixed_of self.old }
+        ensures places { length recent.new ≡ length recent.old }
     {
         for _k in 0..count {
             let _turn = self.tick_with(recent);
@@ -338,7 +344,7 @@ impl Machine {
         ensures shows { (image : List Segment) (s : Sched) (t : ℕ) → Shows image s t self.old → Shows image s (t + count) self.new }
         ensures fixed { fixed_of self.new ≡ fixed_of self.old }
     {
-        self.pass_with(count, &mut Recent::<PLACES>::new());
+        self.pass_with(count, &mut [Slot::EMPTY; PLACES]);
     }
 
     /// Does so many ticks; of a run that has ended, none. It takes no memory.
@@ -350,7 +356,7 @@ impl Machine {
     {
         // to make a table takes as long as some fifty ticks
         if count < 64 {
-            self.pass_with(count, &mut Recent::<1>::new());
+            self.pass_with(count, &mut [Slot::EMPTY]);
         } else {
             self.pass_with_table(count);
         }
@@ -394,7 +400,7 @@ impl Machine {
             letters,
             &[0; 8],
             false,
-            &mut Recent::<1>::new(),
+            &mut [Slot::EMPTY],
             &mut self.cpu,
         ) {
             Err(outcome) => {
@@ -442,7 +448,7 @@ impl Machine {
         ensures taint { (image : List Segment) (s : Sched) (t : ℕ) (listing : Listing) → IsListing (flash_byte image) listing → Shows image s t self.old
             → TaintLies s (run_out listing image s).entries (timed_of self.new).config.state }
     {
-        let mut recent = Recent::<PLACES>::new();
+        let mut recent = [Slot::EMPTY; PLACES];
         while self.is_running() {
             let _turn = self.tick_with(&mut recent);
         }

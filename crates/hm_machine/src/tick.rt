@@ -18,7 +18,7 @@ ghost use Rattle.hm_sched.specs.Schedule.{Sched, TickLine, younger_letter};
 
 use crate::conclusion::{EarlyEnd, conclude};
 use crate::entry::enter_picked;
-use hm_cpu::{Cpu, Recent, letter};
+use hm_cpu::{Cpu, Slot, letter};
 use hm_mem::{Dev, Mem};
 use hm_run::Outcome;
 use hm_sys::{arrive_all, count};
@@ -26,12 +26,8 @@ use hm_window::ending;
 
 /// What a letter of a schedule does, the `step`-th of its tick.
 #[inline(always)]
-fn letter_at<const N: usize>(
-    step: u32,
-    l: u8,
-    recent: &mut Recent<N>,
-    x: &mut Cpu,
-) -> Result<(), EarlyEnd>
+fn letter_at(step: u32, l: u8, recent: &mut [Slot], x: &mut Cpu) -> Result<(), EarlyEnd>
+    requires some { 0 < length recent.old }
     requires count { (x.old.retired < 2 ^ 61) × (x.old.older_steps < 2 ^ 61) }
     requires position { IsPosition x.old }
     requires room { vec_capacity x.old.output ≡ most_output }
@@ -42,6 +38,7 @@ fn letter_at<const N: usize>(
     ensures moves { KeepsFlash x.old x.new }
     ensures position { OnOk result (IsPosition x.new) }
     ensures count { (x.new.retired ≤ x.old.retired + 4) × (x.new.older_steps ≤ x.old.older_steps + 4) }
+    ensures places { length recent.new ≡ length recent.old }
 {
     if let Err(end) = letter(l, recent, x) {
         return Err(EarlyEnd {
@@ -55,11 +52,8 @@ fn letter_at<const N: usize>(
 
 /// The letters of a tick, one after another: as bytes, eight at most.
 #[inline(always)]
-fn letters<const N: usize>(
-    steps: &[u8],
-    recent: &mut Recent<N>,
-    x: &mut Cpu,
-) -> Result<(), EarlyEnd>
+fn letters(steps: &[u8], recent: &mut [Slot], x: &mut Cpu) -> Result<(), EarlyEnd>
+    requires some { 0 < length recent.old }
     requires few { length steps.now ≤ 8 }
     requires count { (x.old.retired < 2 ^ 60) × (x.old.older_steps < 2 ^ 60) }
     requires position { IsPosition x.old }
@@ -71,6 +65,7 @@ fn letters<const N: usize>(
     ensures moves { KeepsFlash x.old x.new }
     ensures position { OnOk result (IsPosition x.new) }
     ensures count { (x.new.retired ≤ x.old.retired + 32) × (x.new.older_steps ≤ x.old.older_steps + 32) }
+    ensures places { length recent.new ≡ length recent.old }
 {
     let mut step = 0;
     for l in steps {
@@ -127,14 +122,15 @@ fn end_tick(
 /// A tick, by its number, its letters, its interrupts, and whether exceptions may enter at its end. The answer is whether one did, or how the run ends
 /// in the tick.
 #[inline(always)]
-pub fn tick<const N: usize>(
+pub fn tick(
     tick: u32,
     steps: &[u8],
     irq: &[u32; 8],
     entries: bool,
-    recent: &mut Recent<N>,
+    recent: &mut [Slot],
     x: &mut Cpu,
 ) -> Result<bool, Outcome>
+    requires some { 0 < length recent.old }
     requires few { length steps.now ≤ 8 }
     requires count { (x.old.retired < 2 ^ 60) × (x.old.older_steps < 2 ^ 60) }
     requires position { IsPosition x.old }
@@ -146,6 +142,7 @@ pub fn tick<const N: usize>(
     ensures moves { KeepsFlash x.old x.new }
     ensures position { OnOk result (IsPosition x.new) }
     ensures count { (x.new.retired ≤ x.old.retired + 33) × (x.new.older_steps ≤ x.old.older_steps + 33) }
+    ensures places { length recent.new ≡ length recent.old }
 {
     if let Err(early) = letters(steps, recent, x) {
         return Err(conclude(tick, early, x));

@@ -7,12 +7,12 @@ use Rattle.hm_cpu.specs.Decodings.{instr_of}
 use Rattle.hm_cpu.proofs.cpu.vector_at.Goals as goal
 
 pub returns-in-Ok-clause-row : goal.returns-in-Ok-clause-row
-returns-in-Ok-clause-row g c listing is =
+returns-in-Ok-clause-row c listing is =
     let flash = flash_at (memory_of c.args.mem.now) in
-    let stands = kept_stands c.keep.new.self flash c.args.addr c.kept.result.now c.in-Ok.ensures.kept c.kept.ensures.value in
+    let stands = kept_stands c.keep.new.recent flash c.args.addr c.kept.result.now c.in-Ok.ensures.kept c.kept.ensures.value in
     c.as_vector.ensures.value ∙ sym (ap vector_of (listed_here listing flash c.args.addr (Ok (instr_of c.kept.result.now)) is stands))
 
 pub returns-in-Err-clause-row : goal.returns-in-Err-clause-row
-returns-in-Err-clause-row g c listing is =
+returns-in-Err-clause-row c listing is =
     let flash = flash_at (memory_of c.args.mem.now) in
     sym (ap vector_of (listed_here listing flash c.args.addr (Err c.in-Err.field-0) is c.in-Err.ensures.fault))
