@@ -1,8 +1,8 @@
 -- Words of the constant of V15 as code makes them.
-use Rattle.std.proofs.Common.{◌≡◌, ℕ, zero, suc, ◌+◌, ◌-◌, ◌*◌, ◌%◌, ◌^◌, ◌<◌, [], ◌∷◌, get_or, arith, ◌∙◌}
+use Rattle.std.proofs.Common.{◌≡◌, ℕ, zero, suc, ◌+◌, ◌*◌, ◌%◌, ◌^◌, ◌<◌, [], ◌∷◌, get_or, arith, ◌∙◌}
 use Rattle.hm_forms_elements.specs.Constants.{constant_word, ones_where, spread_bits, word_in_turn}
 
--- ELEMENTS again and again, of four bytes, of two and of one
+-- ELEMENTS again and again, of one byte
 of_byte : (p b : ℕ) → word_in_turn (p ∷ []) b ≡ p + 2 ^ 8 * p + 2 ^ 16 * p + 2 ^ 24 * p
 of_byte p b =
     let e = p ∷ [] in

@@ -739,7 +739,7 @@ code_v21 (v21.Tail r) = code_tail r
 abbrev pub code_sum : Sum → ℕ
 code_sum r = 0xeef10f00 + r.u.value ↑ 28 + r.z.value ↑ 18 + r.l.value ↑ 13 + r.a.value ↑ 5 + r.m.value ↑ 1
 
--- V22: the code of VMLADAV and VMLADAVA for each size of signed elements, their registers and accumulate bit 0 (DDI0553, "VMLADAV")
+-- V22: the code of VMLADAV for each size of signed elements, its registers 0; with the accumulate bit it is that of VMLADAVA (DDI0553, "VMLADAV")
 abbrev pub dot_base : Element → ℕ
 dot_base element.Bytes = 0xeef00f00
 dot_base element.Halves = 0xeef00e00

@@ -15,7 +15,7 @@ past_zero : (a : ℕ) → 0 < a → (a == 0) ≡ false
 past_zero a more = grind (arith, nat_tests)
 
 module _ {S I C V E W B : Type 0} (M : Core S I C V E W B) where
-  -- so it does past beat 0, where none is made
+  -- past beat 0 no context is made, so what was there stays
   pub begun_later : (c : Config S) → 0 < c.a → begun M c ≡ c
   begun_later c more = ap (λ (b : Bool). record c { state = cond b (M.made c.state) c.state }) (past_zero c.a more)
 

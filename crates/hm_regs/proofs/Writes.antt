@@ -1,5 +1,5 @@
--- A place after a list of writes.
-use Rattle.std.proofs.Common.{◌≡◌, ℕ, ◌-◌, ◌*◌, Bool, true, false, ltb, cond, List, length, set, arith, refl}
+-- What a write to a place leaves: how many registers there are, and what is in no place.
+use Rattle.std.proofs.Common.{◌≡◌, ℕ, ◌*◌, Bool, true, false, ltb, cond, List, length, set, arith, refl}
 use Rattle.std.proofs.Common.{◌∙◌}
 use Rattle.std.proofs.lemmas.List.{length-set}
 use Rattle.hm_base.specs.Bits.{field}

@@ -1,6 +1,6 @@
 -- Items of lists, by their first token.
 use Rattle.std.proofs.Common.{◌≡◌, ℕ, true, false, List, [], ◌∷◌, Some, refl, sym, ap, subst, ◌∙◌}
-use Rattle.hm_tokens.specs.Tokens.{word, number, mark, skip, token_at, minus_mark, plus_mark}
+use Rattle.hm_tokens.specs.Tokens.{word, number, skip, token_at, minus_mark, plus_mark}
 use Rattle.hm_source.specs.Directives.{Datum, literal, named, beyond, datum_tokens}
 use Rattle.hm_line.specs.Fronts.{AreFront}
 use Rattle.hm_source.specs.Shown.{EndsHere}

@@ -1,5 +1,5 @@
 -- The last of some tokens.
-use Rattle.std.proofs.Common.{◌≡◌, ◌-◌, List, [], ◌∷◌, ◌++◌, length, length-append, refl, ap, arith}
+use Rattle.std.proofs.Common.{◌≡◌, List, [], ◌∷◌, ◌++◌, length, length-append, refl, ap, arith}
 use Rattle.hm_tokens.specs.Tokens.{Tok}
 
 cons_one : (x y : Tok) (xs ys : List Tok) → x ∷ xs ≡ y ∷ ys → (x ≡ y) × (xs ≡ ys)
