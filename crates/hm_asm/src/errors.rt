@@ -9,7 +9,7 @@ use std::alloc::{AllocError, AllocFailed};
 use thiserror::Error;
 
 /// Why a source is refused.
-#[derive(Clone, Copy, Debug, PartialEq, Eq, Error)]
+#[derive(Clone, Copy, Debug, Error)]
 pub enum AsmErr {
     /// A line is refused. Lines are counted from 1, and columns are bytes of the line, counted from 1.
     #[error("a line of the source is refused")]

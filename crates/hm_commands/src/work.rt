@@ -54,7 +54,7 @@ impl<'a> Finish<'a> {
 }
 
 /// Why a command is refused.
-#[derive(Clone, Copy, Debug, PartialEq, Eq)]
+#[derive(Clone, Copy)]
 pub enum Refusal {
     /// A file has more bytes than are read.
     FileTooLarge,

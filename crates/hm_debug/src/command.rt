@@ -15,7 +15,7 @@ const MOST_BYTES: u32 = 4_096;
 const MOST_LISTED: u32 = 1_000;
 
 /// A command of a script. A tick is the number of ticks done, from 0 on; the place is the tick at which the script stands.
-#[derive(Clone, Copy, Debug, PartialEq, Eq)]
+#[derive(Clone, Copy)]
 pub enum Command {
     /// To a tick, or to the last one where the run has fewer.
     Goto { tick: u32 },

@@ -3,7 +3,7 @@
 use thiserror::Error;
 
 /// Why a text is no script, or is not done.
-#[derive(Clone, Copy, Debug, PartialEq, Eq, Error)]
+#[derive(Clone, Copy, Debug, Error)]
 pub enum ScriptErr {
     /// The first line, from 1 on, that is no command, or that is not ended.
     #[error("a line of the script is no command")]

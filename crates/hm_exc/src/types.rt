@@ -14,7 +14,7 @@ pub enum Slot {
 }
 
 /// How a return differs from its entry.
-#[derive(Clone, Copy, Debug, PartialEq, Eq)]
+#[derive(Clone, Copy, Debug)]
 pub enum Broken {
     /// It goes to another value than the entry left in LR.
     ExcReturn { value: u32 },
@@ -25,7 +25,7 @@ pub enum Broken {
 }
 
 /// Why an exception does not enter.
-#[derive(Clone, Copy, Debug, PartialEq, Eq)]
+#[derive(Clone, Copy)]
 pub enum EnterErr {
     /// There is no room for the frame below this stack pointer.
     StackSpent { sp: u32 },
@@ -34,7 +34,7 @@ pub enum EnterErr {
 }
 
 /// What an entry puts away (DDI0553, "Exception entry, context stacking").
-#[derive(Clone, Copy, Debug, PartialEq, Eq)]
+#[derive(Clone, Copy)]
 pub struct Activation {
     /// The registers as they were.
     pub regs: Regs,

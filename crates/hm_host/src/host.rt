@@ -7,7 +7,7 @@ use thiserror::Error;
 pub const LONGEST: usize = 16_777_216;
 
 /// Why a call of a host did not succeed.
-#[derive(Clone, Copy, Debug, PartialEq, Eq, Error)]
+#[derive(Clone, Copy, Debug, Error)]
 pub enum HostErr {
     /// The host failed, as at a file that is not there.
     #[error("the host failed")]

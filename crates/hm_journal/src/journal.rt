@@ -55,7 +55,7 @@ impl Journal {
 }
 
 /// Why there is no journal, or why it is not the run's.
-#[derive(Clone, Copy, Debug, PartialEq, Eq, Error)]
+#[derive(Clone, Copy, Debug, Error)]
 pub enum JournalErr {
     /// The schedule has so many ticks that there would be more than 64 checkpoints.
     #[error("the journal would have more than 64 checkpoints")]

@@ -7,7 +7,7 @@ use std::alloc::{AllocError, AllocFailed};
 use thiserror::Error;
 
 /// What is bad first in a line. Where more than one thing is, it is the first of these.
-#[derive(Clone, Copy, Debug, PartialEq, Eq)]
+#[derive(Clone, Copy, Debug)]
 pub enum KernelKind {
     /// The line is missing, has no end, or is not of the form that is asked for at its place.
     Syntax,
@@ -24,7 +24,7 @@ pub enum KernelKind {
 }
 
 /// Why a text is refused.
-#[derive(Clone, Copy, Debug, PartialEq, Eq, Error)]
+#[derive(Clone, Copy, Debug, Error)]
 pub enum KernelErr {
     /// The first bad line, by its number from 1 on, and what is bad in it first.
     #[error("a line of the kernel is bad")]

@@ -4,7 +4,7 @@ ghost use Rattle.std.specs.Prelude.{◌≡◌, ◌≤◌};
 ghost use Rattle.hm_lane.specs.Lanes.{bytes_of, per_word, word_of};
 
 /// The size of a lane (DDI0553, "Vector registers and elements").
-#[derive(Clone, Copy, Debug, PartialEq, Eq)]
+#[derive(Clone, Copy)]
 pub enum Size {
     Byte,
     Half,

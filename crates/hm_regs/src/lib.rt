@@ -12,7 +12,7 @@ ghost use Rattle.hm_regs.specs.Start.{start_regs};
 use hm_base::{Place, bits};
 
 /// The registers of the processor (DDI0553, "Registers", and the register descriptions that are named below).
-#[derive(Clone, Copy, Debug, PartialEq, Eq)]
+#[derive(Clone, Copy, PartialEq, Eq)]
 pub struct Regs {
     /// r0 to r12.
     pub r: [u32; 13],

@@ -21,7 +21,7 @@ pub enum Cause {
 }
 
 /// What a handler did that it may not do.
-#[derive(Clone, Copy, Debug, PartialEq, Eq)]
+#[derive(Clone, Copy, Debug)]
 pub enum Offence {
     Left(Broken),
     Store { addr: u32 },
@@ -37,7 +37,7 @@ pub enum Who {
 }
 
 /// How a run ends. n is how many instructions of the thread were retired; ticks and steps are numbered from 1.
-#[derive(Clone, Copy, Debug, PartialEq, Eq)]
+#[derive(Clone, Copy, Debug)]
 pub enum Outcome {
     Halted {
         reason: Reason,
@@ -74,7 +74,7 @@ pub enum Outcome {
 }
 
 /// What a tick came to.
-#[derive(Clone, Copy, Debug, PartialEq, Eq)]
+#[derive(Clone, Copy, Debug)]
 pub enum Turn {
     Running,
     Ended(Outcome),

@@ -8,7 +8,7 @@ use thiserror::Error;
 
 /// What is bad in a line of a schedule's text. The first four lines are its head, and in format 2 the fifth; each other one has a count, steps
 /// and interrupts.
-#[derive(Clone, Copy, Debug, PartialEq, Eq)]
+#[derive(Clone, Copy, Debug)]
 pub enum LineKind {
     /// The first line, which names the format.
     Header,
@@ -31,7 +31,7 @@ pub enum LineKind {
 }
 
 /// Why a schedule is refused. Lines are numbered from 1, and the first are the head.
-#[derive(Clone, Copy, Debug, PartialEq, Eq, Error)]
+#[derive(Clone, Copy, Debug, Error)]
 pub enum SchedErr {
     /// A line is bad in itself.
     #[error("a line of the schedule is bad")]

@@ -41,7 +41,7 @@ fn first_line(format: u32) -> u32
 }
 
 /// One line of a schedule: as many ticks as its count says, all alike.
-#[derive(Debug, Drop)]
+#[derive(Drop)]
 pub struct Line {
     /// How many ticks, 1 or more.
     pub count: u32,
@@ -53,7 +53,7 @@ pub struct Line {
 }
 
 /// What each tick of a run does. It has at most 16,777,216 ticks.
-#[derive(Debug, Drop)]
+#[derive(Drop)]
 pub struct Schedule {
     format: u32,
     entries: bool,

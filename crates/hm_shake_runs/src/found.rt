@@ -9,7 +9,7 @@ use hm_base::OutOfMemory;
 use std::alloc::Global;
 
 /// A kind of outcome that came: how often, and the run of the fewest ticks in which it did, the first of these.
-#[derive(Clone, Copy, Debug, PartialEq, Eq)]
+#[derive(Clone, Copy)]
 pub struct Found {
     pub kind: Kind,
     pub count: u32,

@@ -8,7 +8,7 @@ use std::alloc::Global;
 
 /// What a schedule says beside its ticks: its format, whether exceptions are entered, the region in which handlers may store, and the floors of the
 /// main and of the process stack.
-#[derive(Clone, Copy, Debug, PartialEq, Eq)]
+#[derive(Clone, Copy)]
 pub struct Head {
     pub format: u32,
     pub entries: bool,

@@ -8,7 +8,7 @@ use hm_exc::{Broken, Slot};
 use hm_run::{Offence, Outcome, Reason, Who};
 
 /// What kind of outcome a run came to: the outcome, but for its tick, its addresses and its values.
-#[derive(Clone, Copy, Debug, PartialEq, Eq)]
+#[derive(Clone, Copy, PartialEq, Eq)]
 pub enum Kind {
     /// It halted, after so many instructions of the thread.
     Halted { reason: Reason, n: u64 },
@@ -78,7 +78,7 @@ pub fn kind_of(outcome: Outcome) -> Kind
 }
 
 /// How a run ended: its kind of outcome, and the ticks that it began.
-#[derive(Clone, Copy, Debug, PartialEq, Eq)]
+#[derive(Clone, Copy)]
 pub struct Ended {
     pub kind: Kind,
     pub ticks: u32,

@@ -4,7 +4,7 @@ ghost use Rattle.std.specs.Prelude.{◌≤◌};
 ghost use Rattle.hm_sched.specs.Schedule.{most_ticks};
 
 /// From what runs are made: a seed, how many runs there are, and how many ticks the plain run begins.
-#[derive(Clone, Copy, Debug, PartialEq, Eq)]
+#[derive(Clone, Copy)]
 pub struct Plan {
     pub seed: u32,
     pub runs: u32,

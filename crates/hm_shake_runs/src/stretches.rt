@@ -12,7 +12,7 @@ use hm_sched::{SchedErr, Schedule};
 use std::alloc::Global;
 
 /// So many ticks of so many letters O each, 1 to 4; an interrupt may arrive in each of them.
-#[derive(Clone, Copy, Debug, PartialEq, Eq)]
+#[derive(Clone, Copy)]
 pub struct Stretch {
     pub count: u32,
     pub letters: u8,

@@ -11,7 +11,7 @@ use hm_line::{behind_mark, next_token, number_at};
 use hm_tokens::{Mark, Token, is_label_name, skip};
 
 /// The size of the values of a list.
-#[derive(Clone, Copy, PartialEq, Eq)]
+#[derive(Clone, Copy)]
 pub enum DatumSize {
     Byte,
     Half,

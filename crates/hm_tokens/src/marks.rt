@@ -4,7 +4,7 @@ ghost use Rattle.std.specs.Prelude.{◌≡◌, ◌∷◌, [], None, Some, option
 ghost use Rattle.hm_tokens.specs.Marks.{is_mark, mark_byte};
 
 /// A mark.
-#[derive(Clone, Copy, PartialEq, Eq)]
+#[derive(Clone, Copy)]
 pub enum Mark {
     /// `:`
     Colon,

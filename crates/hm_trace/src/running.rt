@@ -23,7 +23,7 @@ use hm_text_base::{decimal, text};
 use std::alloc::Global;
 
 /// How a trace is written.
-#[derive(Clone, Copy, Debug, PartialEq, Eq)]
+#[derive(Clone, Copy)]
 pub enum Form {
     /// As lines of text, one for each tick.
     Lines,
@@ -32,7 +32,7 @@ pub enum Form {
 }
 
 /// Ticks of a run, from one to another: the first of a run is tick 1. There are at most 10,000.
-#[derive(Clone, Copy, Debug, PartialEq, Eq)]
+#[derive(Clone, Copy)]
 pub struct Ticks {
     pub first: u32,
     pub last: u32,

@@ -3,14 +3,14 @@
 use hm_base::Place;
 
 /// The position: how many beats of the older and of the younger of two overlapped instructions are done.
-#[derive(Clone, Copy, Debug, PartialEq, Eq)]
+#[derive(Clone, Copy)]
 pub struct Window {
     pub a: u8,
     pub b: u8,
 }
 
 /// A rule of overlap that a schedule breaks.
-#[derive(Clone, Copy, Debug, PartialEq, Eq)]
+#[derive(Clone, Copy, Debug)]
 pub enum Rule {
     /// One of the two addresses holds no vector instruction.
     NotVector,
