@@ -54,3 +54,21 @@ returns c =
         ipsr = number i;
       };
     }
+
+pub core_registers-requires-clause-frame : goal.core_registers-requires-clause-frame
+core_registers-requires-clause-frame c = c.requires.same.1.frame
+
+pub stacked-requires-clause-frame : goal.stacked-requires-clause-frame
+stacked-requires-clause-frame c = c.requires.same.1.frame
+
+pub stacked-requires-2-clause-frame : goal.stacked-requires-2-clause-frame
+stacked-requires-2-clause-frame c = c.requires.same.1.frame
+
+pub fpscr-requires-clause-frame : goal.fpscr-requires-clause-frame
+fpscr-requires-clause-frame c = c.requires.same.1.frame
+
+pub vpr-requires-clause-frame : goal.vpr-requires-clause-frame
+vpr-requires-clause-frame c = c.requires.same.1.frame
+
+pub vectors-requires-clause-frame : goal.vectors-requires-clause-frame
+vectors-requires-clause-frame c = c.requires.same.1.frame
