@@ -3,6 +3,7 @@
 ghost use Rattle.std.specs.Prelude.{◌≡◌, ◌/◌, ◌%◌, ◌^◌, ◌<◌, ◌++◌, ◌↔◌, map, ◌==◌, IsTrue, IfOk};
 ghost use Rattle.std.specs.List.{All, flat_map};
 ghost use Rattle.hm_text_base.specs.Spans.{line};
+ghost use Rattle.hm_text_base.specs.Texts.{hex8};
 ghost use Rattle.hm_sched.specs.Words.{number_of};
 ghost use Rattle.hm_sched.specs.Schedule.{line_of};
 ghost use Rattle.hm_sched.specs.Written.{ticks_text, irq_text, header_text, entries_text, region_text, floor_text, process_lines, head_lines, IsFile};
@@ -117,13 +118,20 @@ fn add_region(out: &mut Vec<u8>, lo: u32, hi: u32) -> Result<(), OutOfMemory>
     text(out, b"\n")
 }
 
+/// Adds a line of a word and an address.
+fn add_address(out: &mut Vec<u8>, word: &[u8], address: u32) -> Result<(), OutOfMemory>
+    ensures { IfOk result (λ _. out.new.items ≡ out.old.items ++ line (word.now ++ hex8 address)) }
+{
+    text(out, word)?;
+    hex8(out, address)?;
+    text(out, b"\n")
+}
+
 /// Adds the line of the main stack's floor.
 fn add_floor(out: &mut Vec<u8>, floor: u32) -> Result<(), OutOfMemory>
     ensures { IfOk result (λ _. out.new.items ≡ out.old.items ++ line (floor_text floor)) }
 {
-    text(out, b"floor ")?;
-    hex8(out, floor)?;
-    text(out, b"\n")
+    add_address(out, b"floor ", floor)
 }
 
 /// Adds the line of the process stack's floor, which format 1 lacks.
@@ -133,9 +141,7 @@ fn add_process(out: &mut Vec<u8>, format: u32, process: u32) -> Result<(), OutOf
     if format == 1 {
         return Ok(());
     }
-    text(out, b"process ")?;
-    hex8(out, process)?;
-    text(out, b"\n")
+    add_address(out, b"process ", process)
 }
 
 /// Adds the lines that say what the schedule has beside its ticks.

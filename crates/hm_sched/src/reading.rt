@@ -1,13 +1,14 @@
 //! Reading the file of a schedule.
 
-ghost use Rattle.std.specs.Prelude.{◌≡◌, ◌+◌, ◌≤◌, [], length, Ok, IfOk};
+ghost use Rattle.std.specs.Prelude.{◌≡◌, ◌+◌, ◌≤◌, [], length, option_and_then, Ok, IfOk};
 ghost use Rattle.hm_text_base.specs.Reading.{Reads};
+ghost use Rattle.hm_text_base.specs.Numbers.{hex8_in};
 ghost use Rattle.hm_text_base.specs.Spans.{lines_of};
 ghost use Rattle.hm_sched.specs.Schedule.{Sched, most_irq, first_line};
 ghost use Rattle.hm_sched.specs.Written.{IsFile};
 ghost use Rattle.hm_sched.specs.ReadLine.{said, ticks_in};
 ghost use Rattle.hm_sched.specs.ReadFile.{line_at, header_in, entries_in, region_in, floor_in, process_in, process_from, on_line, lines_in, with_lines};
-ghost use Rattle.hm_sched.specs.ReadFile.{file_in, Gives};
+ghost use Rattle.hm_sched.specs.ReadFile.{addresses_in, bounded_floor, file_in, Gives};
 
 use crate::errors::{LineKind, SchedErr};
 use crate::tick_text::{Ticks, read_ticks};
@@ -18,6 +19,13 @@ use std::alloc::Global;
 
 /// The first address past SRAM.
 const SRAM_END: u32 = SRAM_START + SRAM_SIZE;
+
+/// The refusal of a line that is bad in itself.
+fn refused(line: u32, kind: LineKind) -> SchedErr
+    ensures { result ≡ SchedErr.Line line kind }
+{
+    SchedErr::Line { line, kind }
+}
 
 /// The next line, which should be of this kind, and what follows it.
 #[tactic(auto, using(hm_text_base::proofs::LineLaws::lines_span))]
@@ -64,6 +72,18 @@ fn read_entries(text: &[u8]) -> Option<bool>
     None
 }
 
+/// The region between two addresses of eight digits, where they are its ends.
+fn region_between(low: &[u8], high: &[u8]) -> Option<(u32, u32)>
+    ensures { result ≡ addresses_in low.now high.now }
+{
+    let lo = read_hex8(low)?;
+    let hi = read_hex8(high)?;
+    if lo < SRAM_START || hi < lo || hi > SRAM_END {
+        return None;
+    }
+    Some((lo, hi))
+}
+
 #[tactic(auto, unfolding(crate::specs::ReadFile::region_in))]
 fn read_region(text: &[u8]) -> Option<(u32, u32)>
     ensures { result ≡ region_in text.now }
@@ -75,12 +95,18 @@ fn read_region(text: &[u8]) -> Option<(u32, u32)>
     if from.is_empty() {
         return None;
     }
-    let lo = read_hex8(low)?;
-    let hi = read_hex8(&from[1..])?;
-    if lo < SRAM_START || hi < lo || hi > SRAM_END {
+    region_between(low, &from[1..])
+}
+
+/// An address of eight digits, where it may be that of a floor.
+fn read_bounded(digits: &[u8]) -> Option<u32>
+    ensures { result ≡ option_and_then bounded_floor (hex8_in digits.now) }
+{
+    let floor = read_hex8(digits)?;
+    if floor < SRAM_START || floor > SRAM_END {
         return None;
     }
-    Some((lo, hi))
+    Some(floor)
 }
 
 #[tactic(auto, unfolding(crate::specs::ReadFile::floor_in))]
@@ -90,11 +116,7 @@ fn read_floor(text: &[u8]) -> Option<u32>
     if !text.starts_with(b"floor ") {
         return None;
     }
-    let floor = read_hex8(&text[6..])?;
-    if floor < SRAM_START || floor > SRAM_END {
-        return None;
-    }
-    Some(floor)
+    read_bounded(&text[6..])
 }
 
 /// The floor of the process stack, which a fifth line says.
@@ -105,11 +127,7 @@ fn read_process(text: &[u8]) -> Option<u32>
     if !text.starts_with(b"process ") {
         return None;
     }
-    let process = read_hex8(&text[8..])?;
-    if process < SRAM_START || process > SRAM_END {
-        return None;
-    }
-    Some(process)
+    read_bounded(&text[8..])
 }
 
 /// The floor of the process stack, and what follows its line: in format 1 it has none and is the floor of the main stack.
@@ -121,10 +139,9 @@ fn process_line(format: u32, floor: u32, bytes: &[u8]) -> Result<(u32, &[u8]), S
         return Ok((floor, bytes));
     }
     let (fifth, rest) = next_line(bytes, 5, LineKind::Process)?;
-    let process = read_process(fifth).ok_or(SchedErr::Line {
-        line: 5,
-        kind: LineKind::Process,
-    })?;
+    let Some(process) = read_process(fifth) else {
+        return Err(refused(5, LineKind::Process));
+    };
     Ok((process, rest))
 }
 
@@ -165,25 +182,21 @@ fn read_file(alloc: Global, bytes: &[u8]) -> Result<Schedule, SchedErr>
     ensures { Gives (λ s. s) result (file_in bytes.now) }
 {
     let (first, rest) = next_line(bytes, 1, LineKind::Header)?;
-    let format = read_header(first).ok_or(SchedErr::Line {
-        line: 1,
-        kind: LineKind::Header,
-    })?;
+    let Some(format) = read_header(first) else {
+        return Err(refused(1, LineKind::Header));
+    };
     let (second, rest) = next_line(rest, 2, LineKind::Entries)?;
-    let entries = read_entries(second).ok_or(SchedErr::Line {
-        line: 2,
-        kind: LineKind::Entries,
-    })?;
+    let Some(entries) = read_entries(second) else {
+        return Err(refused(2, LineKind::Entries));
+    };
     let (third, rest) = next_line(rest, 3, LineKind::Region)?;
-    let (lo, hi) = read_region(third).ok_or(SchedErr::Line {
-        line: 3,
-        kind: LineKind::Region,
-    })?;
+    let Some((lo, hi)) = read_region(third) else {
+        return Err(refused(3, LineKind::Region));
+    };
     let (fourth, rest) = next_line(rest, 4, LineKind::Floor)?;
-    let floor = read_floor(fourth).ok_or(SchedErr::Line {
-        line: 4,
-        kind: LineKind::Floor,
-    })?;
+    let Some(floor) = read_floor(fourth) else {
+        return Err(refused(4, LineKind::Floor));
+    };
     let (process, rest) = process_line(format, floor, rest)?;
     with_lines(
         Schedule::of_format(alloc, format, entries, lo, hi, floor, process),

@@ -112,8 +112,12 @@ pub fn read_ticks(most: u32, text: &[u8]) -> Result<Ticks<'_>, LineKind>
 {
     let (count, rest) = read_count(text)?;
     let (steps, rest) = span(b' ', rest);
-    let letters = read_steps(steps).ok_or(LineKind::Steps)?;
-    let irq = read_irq(most, rest).ok_or(LineKind::Irq)?;
+    let Some(letters) = read_steps(steps) else {
+        return Err(LineKind::Steps);
+    };
+    let Some(irq) = read_irq(most, rest) else {
+        return Err(LineKind::Irq);
+    };
     Ok(Ticks {
         count,
         letters,

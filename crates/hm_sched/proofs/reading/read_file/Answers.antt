@@ -7,24 +7,24 @@ use Rattle.hm_sched.proofs.reading.read_file.Goals as goal
 
 -- what the lines of the head say
 module _ (c : goal.After-rest-5-1) where
-  known : IsFormat c.in_ok-format.format
+  known : IsFormat c.in-Some.format
   known =
-      let e : header_in c.in_ok-first.first.now ≡ Some c.in_ok-format.format = search rules in
-      (header_found c.in_ok-first.first.now c.in_ok-format.format e).1
+      let e : header_in c.in_ok-first.first.now ≡ Some c.in-Some.format = search rules in
+      (header_found c.in_ok-first.first.now c.in-Some.format e).1
 
-  region : Within c.in_ok-lo.lo c.in_ok-lo.hi
+  region : Within c.in-Some-read_region.lo c.in-Some-read_region.hi
   region =
-      let e : region_in c.in_ok-third.third.now ≡ Some (c.in_ok-lo.lo, c.in_ok-lo.hi) = search rules in
-      (region_found c.in_ok-third.third.now (c.in_ok-lo.lo, c.in_ok-lo.hi) e).1
+      let e : region_in c.in_ok-third.third.now ≡ Some (c.in-Some-read_region.lo, c.in-Some-read_region.hi) = search rules in
+      (region_found c.in_ok-third.third.now (c.in-Some-read_region.lo, c.in-Some-read_region.hi) e).1
 
-  floor : IsFloor c.in_ok-floor.floor
+  floor : IsFloor c.in-Some-read_floor.floor
   floor =
-      let e : floor_in c.in_ok-fourth.fourth.now ≡ Some c.in_ok-floor.floor = search rules in
-      (floor_found c.in_ok-fourth.fourth.now c.in_ok-floor.floor e).1
+      let e : floor_in c.in_ok-fourth.fourth.now ≡ Some c.in-Some-read_floor.floor = search rules in
+      (floor_found c.in_ok-fourth.fourth.now c.in-Some-read_floor.floor e).1
 
-  process : ProcessFound c.in_ok-format.format c.in_ok-floor.floor (lines_of c.in_ok-fourth.rest.now)
+  process : ProcessFound c.in-Some.format c.in-Some-read_floor.floor (lines_of c.in_ok-fourth.rest.now)
       (c.in_ok-process.process, lines_of c.in_ok-process.rest.now)
-  process = process_from_found c.in_ok-format.format c.in_ok-floor.floor (lines_of c.in_ok-fourth.rest.now)
+  process = process_from_found c.in-Some.format c.in-Some-read_floor.floor (lines_of c.in_ok-fourth.rest.now)
       (c.in_ok-process.process, lines_of c.in_ok-process.rest.now) known floor c.in_ok-process.ensures
 
 pub of_format-requires-clause-known : goal.of_format-requires-clause-known
