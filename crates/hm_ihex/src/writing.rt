@@ -81,6 +81,16 @@ fn add_base(out: &mut Vec<u8>, last: u32, address: u32) -> Result<(), OutOfMemor
     )
 }
 
+/// Adds the lines of a piece: that of a new base, where there is one, and that of its data.
+fn add_piece(out: &mut Vec<u8>, last: u32, address: u32, bytes: &[u8]) -> Result<(), OutOfMemory>
+    requires few { length bytes.now < 256 }
+    ensures added { OnOk result (out.new.items
+        ≡ (out.old.items ++ flat_map line (base_lines last address)) ++ line (data_text (address % 65536) bytes.now)) }
+{
+    add_base(out, last, address)?;
+    add_data(out, address, bytes)
+}
+
 /// How many bytes a record from an address on may have.
 fn room_at(address: u32) -> usize
     ensures value { result ≡ room_at address }
@@ -114,8 +124,7 @@ fn add_segment(out: &mut Vec<u8>, last: u32, address: u32, bytes: &[u8]) -> Resu
     while at < bytes.len() {
         let start = address + at as u32;
         let end = piece_end(bytes.len(), at, room_at(start));
-        add_base(out, upper, start)?;
-        add_data(out, start, &bytes[at..end])?;
+        add_piece(out, upper, start, &bytes[at..end])?;
         upper = start / 65_536;
         at = end;
     }

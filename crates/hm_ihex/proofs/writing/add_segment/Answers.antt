@@ -1,5 +1,7 @@
-use Rattle.std.proofs.Common.{◌≡◌, ◌⊎◌, ◌+◌, ◌-◌, ◌<◌, ◌≤◌, ℕ, drop, length, take, subst}
-use Rattle.hm_ihex.specs.Written.{pieces, room_at}
+use Rattle.std.proofs.Common.{◌≡◌, ◌⊎◌, ◌+◌, ◌-◌, ◌<◌, ◌≤◌, ◌++◌, ℕ, drop, length, take, subst, refl}
+use Rattle.std.specs.List.{flat_map}
+use Rattle.hm_text_base.specs.Spans.{line}
+use Rattle.hm_ihex.specs.Written.{base_lines, pieces, room_at}
 use Rattle.hm_ihex.proofs.Pieces.{no_piece, on_piece, piece_at}
 use Rattle.hm_ihex.proofs.ReadBack.{bytes_from}
 use Rattle.hm_ihex.proofs.writing.add_segment.Goals as goal
@@ -17,9 +19,10 @@ loop-at-preserved c =
     record {
       within = c.piece_end-end.ensures.last;
       bytes = c.loop-at.invariant.bytes;
-      added = λ rest. on_piece c.loop-at.out.items c.add_base.new.out.items c.add_data.new.out.items c.loop-at.upper start (take (end - at) (drop at bytes))
+      added = λ rest. on_piece c.loop-at.out.items (c.loop-at.out.items ++ flat_map line (base_lines c.loop-at.upper start)) c.add_piece.new.out.items
+          c.loop-at.upper start (take (end - at) (drop at bytes))
           (pieces (length bytes - at) start (drop at bytes)) (pieces (length bytes - end) (c.args.address + end) (drop end bytes)) rest _
-          c.in_ok-add_base.ensures.added c.in_ok-add_data.ensures.added piece.first (c.loop-at.invariant.added rest);
+          refl c.in_ok-add_piece.ensures.added piece.first (c.loop-at.invariant.added rest);
     }
 
 pub returns : goal.returns
