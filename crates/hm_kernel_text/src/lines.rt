@@ -6,7 +6,7 @@ ghost use Rattle.std.specs.List.{list_all, list_any};
 ghost use Rattle.hm_kernel_lang.specs.Language.{bytes};
 ghost use Rattle.hm_kernel_lang.specs.Texts.{IsSet};
 ghost use Rattle.hm_kernel_text.specs.Words.{is_name, is_numeral, words_behind};
-ghost use Rattle.hm_kernel_text.specs.ReadLine.{array_form, bounded_values, by_form, form_in, form_of, is_placed, line_in, set_form, share};
+ghost use Rattle.hm_kernel_text.specs.ReadLine.{array_form, behind_array, bounded_values, by_form, form_in, form_of, is_placed, line_in, set_form, share};
 ghost use Rattle.hm_kernel_text.specs.ReadLine.{values_in, with_array, with_set, with_written_array, with_written_set};
 ghost use Rattle.hm_kernel_text.specs.ReadFile.{Gives, on_line};
 ghost use Rattle.hm_kernel_text.specs.ReadTree.{tree_in};
@@ -175,6 +175,28 @@ pub fn refused(line: u32, kind: KernelKind) -> KernelErr
     KernelErr::Line { line, kind }
 }
 
+/// The array of a line whose name is new, where its values are in bounds and it shares no byte with an earlier one.
+fn placed_array(
+    alloc: Global,
+    x: &Text,
+    said: Parts<'_>,
+    addr: u32,
+    line: u32,
+) -> Result<Array, KernelErr>
+    ensures read { Gives (λ a. with_written_array (written x.now) (array_written a)) result
+        (on_line line (behind_array (written x.now) said.entry.name.now addr
+        (bounded_values x.now.element x.now.count addr (words_behind said.entry.more.now)))) }
+{
+    let Some(values) = bounded_values(alloc, x, addr, said.more)? else {
+        return Err(refused(line, KernelKind::Range));
+    };
+    if shares(x.element, x.count, &x.arrays, addr) {
+        return Err(refused(line, KernelKind::Overlap));
+    }
+    let name = Vec::from_slice(alloc, said.name)?;
+    Ok(Array { name, addr, values })
+}
+
 /// The array of a line, behind the arrays and lines of a text: its name, its address, and the words of its values.
 #[tactic(auto, unfolding(crate::specs::ReadLine::with_array))]
 fn new_array(
@@ -198,14 +220,7 @@ fn new_array(
     if position(&x.arrays, said.name).is_some() {
         return Err(refused(line, KernelKind::Name));
     }
-    let Some(values) = bounded_values(alloc, x, addr, said.more)? else {
-        return Err(refused(line, KernelKind::Range));
-    };
-    if shares(x.element, x.count, &x.arrays, addr) {
-        return Err(refused(line, KernelKind::Overlap));
-    }
-    let name = Vec::from_slice(alloc, said.name)?;
-    Ok(Array { name, addr, values })
+    placed_array(alloc, x, said, addr, line)
 }
 
 /// The array that a line is said to be of, in the line of a number.

@@ -5,7 +5,7 @@ ghost use Rattle.hm_kernel_lang.specs.Language.{modulus};
 ghost use Rattle.hm_kernel_lang.specs.Texts.{IsOver};
 ghost use Rattle.hm_kernel_text.specs.Held.{tree_of, array_written, expr_written, name_at};
 ghost use Rattle.hm_kernel_text.specs.ReadLine.{in_range, is_there, knows};
-ghost use Rattle.hm_kernel_text.specs.Trees.{tree_need};
+ghost use Rattle.hm_kernel_text.specs.Trees.{tree_need, word};
 
 use crate::tree::Tree;
 use crate::words::{is_name, number_below};
@@ -73,6 +73,20 @@ pub fn needs_at_most(registers: u32, tree: &Tree<'_>) -> bool
     }
 }
 
+/// What a word stands for that is the name of an array that is there, or a number of the type.
+fn leaf(element: ElementType, arrays: &[Array], text: &[u8]) -> Expr
+    requires few { length arrays.now ≤ 256 }
+    requires known { knows (map array_written arrays.now) (word text.now) ≡ true }
+    requires small { in_range (modulus element) (word text.now) ≡ true }
+    ensures expr { expr_written arrays.now result ≡ word text.now }
+    ensures over { IsOver element (length arrays.now) result }
+{
+    if is_name(text) {
+        return Expr::Name(position(arrays, text).unwrap());
+    }
+    Expr::Number(number_below(modulus(element), text).unwrap())
+}
+
 /// The expression over arrays of one whose names are there and whose numbers are of the type.
 pub fn resolve(
     alloc: Global,
@@ -87,12 +101,7 @@ pub fn resolve(
     ensures over { IfOk result (IsOver element (length arrays.now)) }
 {
     match tree {
-        Tree::Word(word) => {
-            if is_name(word) {
-                return Ok(Expr::Name(position(arrays, word).unwrap()));
-            }
-            Ok(Expr::Number(number_below(modulus(element), word).unwrap()))
-        }
+        Tree::Word(word) => Ok(leaf(element, arrays, word)),
         Tree::Apply(op, left, right) => {
             let left = resolve(alloc, element, arrays, left)?;
             let right = resolve(alloc, element, arrays, right)?;

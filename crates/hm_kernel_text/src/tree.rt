@@ -2,6 +2,7 @@
 
 ghost use Rattle.std.specs.Prelude.{◌≡◌, IfOk, option_map};
 ghost use Rattle.hm_kernel_text.specs.Words.{words_behind};
+ghost use Rattle.hm_kernel_text.specs.Trees.{apply};
 ghost use Rattle.hm_kernel_text.specs.Shapes.{tree_at};
 ghost use Rattle.hm_kernel_text.specs.Held.{tree_of};
 
@@ -17,6 +18,20 @@ use std::alloc::Global;
 pub enum Tree<'a> {
     Word(&'a [u8]),
     Apply(Op, Box<Tree<'a>>, Box<Tree<'a>>),
+}
+
+/// The operation on two expressions.
+fn apply<'a>(
+    alloc: Global,
+    op: Op,
+    left: Tree<'a>,
+    right: Tree<'a>,
+) -> Result<Tree<'a>, OutOfMemory>
+    ensures tree { IfOk result (λ t. tree_of t ≡ apply op (tree_of left.entry) (tree_of right.entry)) }
+{
+    let left = Box::new(alloc, left)?;
+    let right = Box::new(alloc, right)?;
+    Ok(Tree::Apply(op, left, right))
 }
 
 /// The tree of the expression that the words behind a place begin with, and what follows its last word. They are known to be one, no deeper
@@ -48,7 +63,6 @@ pub fn read_tree<'a>(
     let Some((right, behind_right)) = read_tree(alloc, behind_left, deep - 1)? else {
         return Ok(None);
     };
-    let left = Box::new(alloc, left)?;
-    let right = Box::new(alloc, right)?;
-    Ok(Some((Tree::Apply(op, left, right), behind_right)))
+    let tree = apply(alloc, op, left, right)?;
+    Ok(Some((tree, behind_right)))
 }

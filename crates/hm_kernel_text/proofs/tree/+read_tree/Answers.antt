@@ -39,7 +39,7 @@ returns-in_default-3 t c = record {
 
 pub returns : goal.returns
 returns t c =
-    rw (c.in_ok-left-2.ensures.ok, c.in_ok-right-2.ensures.ok) (record {
+    rw c.in_ok-tree.ensures.tree (record {
       value = at_apply c.args.deep (words_behind c.args.text.now) c.next_word.result.0.now (words_behind c.next_word.result.1.now) c.in-Some.op
           (tree_of c.in-Some-2.left) (tree_of c.in-Some-3.right) (words_behind c.in-Some-2.behind_left.now) (words_behind c.in-Some-3.behind_right.now)
           (search rules) c.next_word.ensures.words (search rules) (sym c.in-Some.is ∙ c.read_op.ensures.value)
