@@ -1,15 +1,14 @@
 //! The rows T3 to T7: longer constants, saturation, and fields of bits.
 
 ghost use Rattle.std.specs.Prelude.{◌≡◌, ◌≤◌, ◌<◌, ◌+◌, ◌-◌, ◌^◌};
-ghost use Rattle.hm_base.specs.Bits.{put_field};
 ghost use Rattle.hm_thumb.specs.DataRows.{bits_with, half_put, put_saturated, saturated, t3, t4, t5, t6, t7};
 
-use crate::operands::{imm_shift_c, reg_or_zero};
+use crate::operands::{reg_or_zero, shifted_register};
 use crate::sums::sum_of;
 use hm_base::{Place, bits};
 use hm_isa::words::{SIGN, imm5, imm12, imm16, sign_extended};
 use hm_isa::{Below, ExtractName, HalfName, SaturateName, T3, T4, T5, T6, T7};
-use hm_regs::Regs;
+use hm_regs::{Regs, put_bits};
 use hm_thumb::base_of;
 
 /// `addw`, `subw rd,rn,#i12`
@@ -69,8 +68,8 @@ fn put_saturated(d: u32, y: u32, x: u32, regs: &mut Regs)
 pub fn saturate(i: &T5, regs: &mut Regs)
     ensures regs { regs.new ≡ t5 i.now regs.old }
 {
-    let n = regs.get(Place::R(i.n.get() as u8));
-    let x = imm_shift_c(Below::new(2 * i.sh.get()), imm5(i.i3, i.i2), n, regs.c).result;
+    let ty = Below::new(2 * i.sh.get());
+    let x = shifted_register(ty, i.i3, i.i2, i.n.get(), regs).result;
     let y = saturated(i.name, i.s.get(), x);
     put_saturated(i.d.get(), y, x, regs);
 }
@@ -98,19 +97,6 @@ pub fn extract(i: &T6, regs: &mut Regs)
     regs.set(Place::R(i.d.get() as u8), bits_with(i.name, w + 1, x));
 }
 
-/// A word whose `width` bits from bit `lsb` on are the lowest ones of another.
-#[tactic(auto, unfolding(hm_base::specs::Bits::put_field))]
-fn inserted(lsb: u32, width: u32, x: u32, word: u32) -> u32
-    requires some { 1 ≤ width }
-    requires top { lsb + width ≤ 32 }
-    ensures value { result ≡ put_field lsb width x word }
-{
-    let high = (word as u64 >> (lsb + width)) << (lsb + width);
-    let middle = (x as u64 % (1 << width)) << lsb;
-    let low = word as u64 % (1 << lsb);
-    (high + middle + low) as u32
-}
-
 /// `bfi rd,rn,#lsb,#width`, `bfc rd,#lsb,#width`
 pub fn insert(i: &T7, regs: &mut Regs)
     ensures regs { regs.new ≡ t7 i.now regs.old }
@@ -119,5 +105,5 @@ pub fn insert(i: &T7, regs: &mut Regs)
     let d = Place::R(i.d.get() as u8);
     let x = reg_or_zero(i.n.get(), regs);
     let word = regs.get(d);
-    regs.set(d, inserted(lsb, i.e.get() + 1 - lsb, x, word));
+    regs.set(d, put_bits(word, i.e.get(), lsb, x));
 }

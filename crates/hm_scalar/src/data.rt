@@ -3,9 +3,9 @@
 ghost use Rattle.std.specs.Prelude.{◌≡◌, ◌<◌};
 ghost use Rattle.hm_thumb.specs.DataRows.{data_row, put_data_sum, put_if, put_logical, t1, t2};
 
-use crate::operands::{imm_shift_c, reg_or_zero};
+use crate::operands::{reg_or_zero, shifted_register};
 use hm_base::Place;
-use hm_isa::words::{Shifted, expand_imm_c, imm5, imm12};
+use hm_isa::words::{Shifted, expand_imm_c, imm12};
 use hm_isa::{DataName, T1, T2};
 use hm_regs::Regs;
 use hm_thumb::{Sum, add_with_carry, set_nzc, set_nzcv};
@@ -78,7 +78,6 @@ pub fn with_register(i: &T2, regs: &mut Regs)
     ensures regs { regs.new ≡ t2 i.now regs.old }
 {
     let x = reg_or_zero(i.n.get(), regs);
-    let m = regs.get(Place::R(i.m.get() as u8));
-    let y = imm_shift_c(i.ty, imm5(i.i3, i.i2), m, regs.c);
+    let y = shifted_register(i.ty, i.i3, i.i2, i.m.get(), regs);
     operate(i.name, i.s.get(), i.d.get(), x, y, regs);
 }
