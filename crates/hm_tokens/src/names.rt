@@ -1,8 +1,28 @@
 //! The names of registers, halves of vector registers and conditions.
 
-ghost use Rattle.std.specs.Prelude.{◌≡◌, ◌<◌, ◌≤◌, length, IfSome};
-ghost use Rattle.hm_tokens.specs.Names.{are_name_bytes, condition_in, condition_name, double_in, double_name, is_double, is_label_name, is_letter, is_name};
-ghost use Rattle.hm_tokens.specs.Names.{is_reserved, register_in, register_name, vector_in, vector_name};
+ghost use Rattle.std.specs.Prelude.{◌≡◌, ◌<◌, ◌≤◌, ◌||◌, bytes_eq, codes, length, map, IfSome};
+ghost use Rattle.hm_tokens.specs.Names.{are_name_bytes, condition_in, condition_name, double_in, double_name, is_label_name, is_letter, is_name, is_number_given};
+ghost use Rattle.hm_tokens.specs.Names.{is_reserved, number_of, register_in, register_name, vector_in, vector_name};
+
+/// The names of the core registers, in the order of their numbers.
+const REGISTERS: [&str; 16] = [
+    "r0", "r1", "r2", "r3", "r4", "r5", "r6", "r7", "r8", "r9", "r10", "r11", "r12", "sp", "lr",
+    "pc",
+];
+
+/// The names of the vector registers, in the order of their numbers.
+const VECTORS: [&str; 8] = ["q0", "q1", "q2", "q3", "q4", "q5", "q6", "q7"];
+
+/// The names of the halves of vector registers, in the order of their numbers.
+const DOUBLES: [&str; 16] = [
+    "d0", "d1", "d2", "d3", "d4", "d5", "d6", "d7", "d8", "d9", "d10", "d11", "d12", "d13", "d14",
+    "d15",
+];
+
+/// The names of the conditions but `al`, in the order of their numbers.
+const CONDITIONS: [&str; 14] = [
+    "eq", "ne", "cs", "cc", "mi", "pl", "vs", "vc", "hi", "ls", "ge", "lt", "gt", "le",
+];
 
 /// The name of a core register: `r0` to `r12`, `sp`, `lr`, `pc`.
 pub fn register_name(n: u32) -> &'static str
@@ -10,24 +30,7 @@ pub fn register_name(n: u32) -> &'static str
     ensures text { result.now ≡ register_name n }
     ensures short { length result.now ≤ 3 }
 {
-    match n {
-        0 => "r0",
-        1 => "r1",
-        2 => "r2",
-        3 => "r3",
-        4 => "r4",
-        5 => "r5",
-        6 => "r6",
-        7 => "r7",
-        8 => "r8",
-        9 => "r9",
-        10 => "r10",
-        11 => "r11",
-        12 => "r12",
-        13 => "sp",
-        14 => "lr",
-        _ => "pc",
-    }
+    REGISTERS[n as usize]
 }
 
 /// The name of a vector register: `q0` to `q7`.
@@ -36,16 +39,7 @@ pub fn vector_name(n: u32) -> &'static str
     ensures text { result.now ≡ vector_name n }
     ensures short { length result.now ≤ 2 }
 {
-    match n {
-        0 => "q0",
-        1 => "q1",
-        2 => "q2",
-        3 => "q3",
-        4 => "q4",
-        5 => "q5",
-        6 => "q6",
-        _ => "q7",
-    }
+    VECTORS[n as usize]
 }
 
 /// The name of a half of a vector register: `d0` to `d15`.
@@ -53,24 +47,7 @@ pub fn double_name(n: u32) -> &'static str
     requires { n < 16 }
     ensures text { result.now ≡ double_name n }
 {
-    match n {
-        0 => "d0",
-        1 => "d1",
-        2 => "d2",
-        3 => "d3",
-        4 => "d4",
-        5 => "d5",
-        6 => "d6",
-        7 => "d7",
-        8 => "d8",
-        9 => "d9",
-        10 => "d10",
-        11 => "d11",
-        12 => "d12",
-        13 => "d13",
-        14 => "d14",
-        _ => "d15",
-    }
+    DOUBLES[n as usize]
 }
 
 /// The name of a condition: `eq` to `le`, from 0 to 13.
@@ -79,22 +56,23 @@ pub fn condition_name(n: u32) -> &'static str
     ensures text { result.now ≡ condition_name n }
     ensures short { length result.now ≤ 2 }
 {
-    match n {
-        0 => "eq",
-        1 => "ne",
-        2 => "cs",
-        3 => "cc",
-        4 => "mi",
-        5 => "pl",
-        6 => "vs",
-        7 => "vc",
-        8 => "hi",
-        9 => "ls",
-        10 => "ge",
-        11 => "lt",
-        12 => "gt",
-        _ => "le",
+    CONDITIONS[n as usize]
+}
+
+/// The place of a word among at most 16 names, counted from 0.
+fn number_of(names: &[&str], word: &[u8]) -> Option<u32>
+    requires few { length names.now ≤ 16 }
+    ensures value { result ≡ number_of 0 word.now (map (λ name. name.now) names.now) }
+    ensures below { IfSome result (λ n. n < length names.now) }
+{
+    let mut n = 0;
+    for name in names {
+        if word == name.as_bytes() {
+            return Some(n);
+        }
+        n += 1;
     }
+    None
 }
 
 /// The number of the core register that has this name.
@@ -102,25 +80,7 @@ pub fn read_register(name: &[u8]) -> Option<u32>
     ensures value { result ≡ register_in name.now }
     ensures below { IfSome result (λ n. n < 16) }
 {
-    match name {
-        b"r0" => Some(0),
-        b"r1" => Some(1),
-        b"r2" => Some(2),
-        b"r3" => Some(3),
-        b"r4" => Some(4),
-        b"r5" => Some(5),
-        b"r6" => Some(6),
-        b"r7" => Some(7),
-        b"r8" => Some(8),
-        b"r9" => Some(9),
-        b"r10" => Some(10),
-        b"r11" => Some(11),
-        b"r12" => Some(12),
-        b"sp" => Some(13),
-        b"lr" => Some(14),
-        b"pc" => Some(15),
-        _ => None,
-    }
+    number_of(&REGISTERS, name)
 }
 
 /// The number of the vector register that has this name.
@@ -128,42 +88,14 @@ pub fn read_vector(name: &[u8]) -> Option<u32>
     ensures value { result ≡ vector_in name.now }
     ensures below { IfSome result (λ n. n < 8) }
 {
-    match name {
-        b"q0" => Some(0),
-        b"q1" => Some(1),
-        b"q2" => Some(2),
-        b"q3" => Some(3),
-        b"q4" => Some(4),
-        b"q5" => Some(5),
-        b"q6" => Some(6),
-        b"q7" => Some(7),
-        _ => None,
-    }
+    number_of(&VECTORS, name)
 }
 
 /// The number of the half of a vector register that has this name.
 pub fn read_double(name: &[u8]) -> Option<u32>
     ensures value { result ≡ double_in name.now }
 {
-    match name {
-        b"d0" => Some(0),
-        b"d1" => Some(1),
-        b"d2" => Some(2),
-        b"d3" => Some(3),
-        b"d4" => Some(4),
-        b"d5" => Some(5),
-        b"d6" => Some(6),
-        b"d7" => Some(7),
-        b"d8" => Some(8),
-        b"d9" => Some(9),
-        b"d10" => Some(10),
-        b"d11" => Some(11),
-        b"d12" => Some(12),
-        b"d13" => Some(13),
-        b"d14" => Some(14),
-        b"d15" => Some(15),
-        _ => None,
-    }
+    number_of(&DOUBLES, name)
 }
 
 /// The number of the condition that has this name.
@@ -171,23 +103,7 @@ pub fn read_condition(name: &[u8]) -> Option<u32>
     ensures value { result ≡ condition_in name.now }
     ensures below { IfSome result (λ n. n < 14) }
 {
-    match name {
-        b"eq" => Some(0),
-        b"ne" => Some(1),
-        b"cs" => Some(2),
-        b"cc" => Some(3),
-        b"mi" => Some(4),
-        b"pl" => Some(5),
-        b"vs" => Some(6),
-        b"vc" => Some(7),
-        b"hi" => Some(8),
-        b"ls" => Some(9),
-        b"ge" => Some(10),
-        b"lt" => Some(11),
-        b"gt" => Some(12),
-        b"le" => Some(13),
-        _ => None,
-    }
+    number_of(&CONDITIONS, name)
 }
 
 /// Whether a byte is a letter or `_`.
@@ -221,30 +137,30 @@ fn is_name(word: &[u8]) -> bool
     }
 }
 
-/// Whether a name is that of a half of a vector register.
-fn is_double(name: &[u8]) -> bool
-    ensures value { result ≡ is_double name.now }
+/// Whether a word is one of at most 16 names.
+fn is_among(names: &[&str], word: &[u8]) -> bool
+    requires few { length names.now ≤ 16 }
+    ensures value { result ≡ is_number_given (number_of 0 word.now (map (λ name. name.now) names.now)) }
 {
-    read_double(name).is_some()
+    number_of(names, word).is_some()
+}
+
+/// Whether a word is another that stands where a condition or a register does.
+fn is_special(word: &[u8]) -> bool
+    ensures value { result ≡ (bytes_eq word.now (codes "al") || bytes_eq word.now (codes "zr") || bytes_eq word.now (codes "apsr")) }
+{
+    matches!(word, b"al" | b"zr" | b"apsr")
 }
 
 /// Whether a name is that of a register or a condition.
 fn is_reserved(name: &[u8]) -> bool
     ensures value { result ≡ is_reserved name.now }
 {
-    if read_register(name).is_some() {
-        return true;
-    }
-    if read_vector(name).is_some() {
-        return true;
-    }
-    if read_condition(name).is_some() {
-        return true;
-    }
-    if is_double(name) {
-        return true;
-    }
-    matches!(name, b"al" | b"zr" | b"apsr")
+    is_among(&REGISTERS, name)
+        || is_among(&VECTORS, name)
+        || is_among(&CONDITIONS, name)
+        || is_among(&DOUBLES, name)
+        || is_special(name)
 }
 
 /// Whether a label may have this name: a letter or `_`, then letters, digits and `_`, and not the name of a register (r0 to

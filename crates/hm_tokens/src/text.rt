@@ -155,29 +155,17 @@ fn push_space(out: &mut ArrayString<96>)
     out.push_str(space);
 }
 
+/// The hexadecimal digits, in the order of their values.
+const HEX_DIGITS: [&str; 16] = [
+    "0", "1", "2", "3", "4", "5", "6", "7", "8", "9", "a", "b", "c", "d", "e", "f",
+];
+
 /// A hexadecimal digit, of a number below 16.
 fn hex_digit(d: u32) -> &'static str
     requires { d < 16 }
     ensures text { result.now ≡ hex_digit d ∷ [] }
 {
-    match d {
-        0 => "0",
-        1 => "1",
-        2 => "2",
-        3 => "3",
-        4 => "4",
-        5 => "5",
-        6 => "6",
-        7 => "7",
-        8 => "8",
-        9 => "9",
-        10 => "a",
-        11 => "b",
-        12 => "c",
-        13 => "d",
-        14 => "e",
-        _ => "f",
-    }
+    HEX_DIGITS[d as usize]
 }
 
 /// Adds four hexadecimal digits.

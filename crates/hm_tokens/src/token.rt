@@ -1,7 +1,8 @@
 //! Tokens: the longest that stands at the front of a text.
 
-ghost use Rattle.std.specs.Prelude.{◌≡◌, ◌≤◌, ◌^◌, ◌+◌, length, IfSome};
-ghost use Rattle.hm_tokens.specs.Tokens.{Tok, tok, is_in, run, digit, value, skip, is_hex, token_at};
+ghost use Rattle.std.specs.Prelude.{◌≡◌, ◌≤◌, ◌^◌, ◌+◌, length, IfSome, Some};
+ghost use Rattle.hm_tokens.specs.declared.token.Class.TheVariants as classes;
+ghost use Rattle.hm_tokens.specs.Tokens.{Tok, tok, is_in, run, digit, value, skip, is_hex, number_token, word_token, token_at};
 ghost use Rattle.hm_text_base.specs.Reading.{ReadsSome};
 
 use crate::marks::Mark;
@@ -93,6 +94,22 @@ fn is_hex(text: &[u8]) -> bool
     text.len() > 2 && text[0] == b'0' && text[1] == b'x' && is_in(Class::Hex, text[2])
 }
 
+/// The number that the digits at the front write to this base, and the rest.
+fn number_at(class: Class, base: u8, text: &[u8]) -> (Token<'_>, &[u8])
+    ensures read { Some (tok result.0, result.1.now) ≡ number_token base (run class text.now) }
+{
+    let (digits, rest) = run(class, text);
+    (Token::Number(value(base, digits)), rest)
+}
+
+/// The word at the front, and the rest.
+fn word_at(text: &[u8]) -> (Token<'_>, &[u8])
+    ensures read { Some (tok result.0, result.1.now) ≡ word_token (run classes.Word text.now) }
+{
+    let (word, rest) = run(Class::Word, text);
+    (Token::Word(word), rest)
+}
+
 /// The longest token at the front, and the rest.
 #[tactic(auto, unfolding(crate::specs::Tokens::token_at))]
 pub fn token_at(text: &[u8]) -> Option<(Token<'_>, &[u8])>
@@ -103,16 +120,13 @@ pub fn token_at(text: &[u8]) -> Option<(Token<'_>, &[u8])>
     }
     let c = text[0];
     if is_hex(text) {
-        let (digits, rest) = run(Class::Hex, &text[2..]);
-        return Some((Token::Number(value(16, digits)), rest));
+        return Some(number_at(Class::Hex, 16, &text[2..]));
     }
     if is_in(Class::Decimal, c) {
-        let (digits, rest) = run(Class::Decimal, text);
-        return Some((Token::Number(value(10, digits)), rest));
+        return Some(number_at(Class::Decimal, 10, text));
     }
     if is_in(Class::Word, c) {
-        let (word, rest) = run(Class::Word, text);
-        return Some((Token::Word(word), rest));
+        return Some(word_at(text));
     }
     match Mark::of(c) {
         Some(mark) => Some((Token::Mark(mark), &text[1..])),
