@@ -1,10 +1,11 @@
--- Codes whose fields break the rule of one of the rows T1 to T7, or of `mla` and `mls`.
+-- Codes whose fields break the rule of one of the rows T1 to T7, or of `mla`, `mls`, `smull`, `umull`, `smlal` and `umlal`.
 use Rattle.std.proofs.Common.{◌≡◌, ◌+◌, ◌-◌, ◌*◌, ◌^◌, ℕ, true, false, [], ◌∷◌, refl, arith}
-use Rattle.hm_isa.specs.Rules.{is_general, is_accumulated}
+use Rattle.hm_isa.specs.Rules.{is_general, is_accumulated, is_long_product}
 use Rattle.hm_isa.specs.DataRules.{is_constant_row, is_shifted_row, is_wide_sum, is_saturated, is_bit_field, is_inserted}
 use Rattle.hm_isa.specs.DataCodes.{data_operation, code_t1, code_t2, code_t3, code_t4, code_t5, code_t6, code_t7}
-use Rattle.hm_isa.specs.ArithCodes.{code_accumulate}
+use Rattle.hm_isa.specs.ArithCodes.{code_accumulate, code_long_product}
 use Rattle.hm_isa.specs.declared.arith.Accumulate.{Accumulate}
+use Rattle.hm_isa.specs.declared.arith.LongProduct.{LongProduct}
 use Rattle.hm_isa.specs.declared.data.DataName.{DataName}
 use Rattle.hm_isa.specs.declared.data.T1.{T1}
 use Rattle.hm_isa.specs.declared.data.T2.{T2}
@@ -16,7 +17,7 @@ use Rattle.hm_isa.specs.declared.data.T7.{T7}
 use Rattle.hm_layout.proofs.Places.{digits}
 use Rattle.hm_layout.proofs.Rows.{named, plain}
 use Rattle.hm_code_fields.proofs.AtPlaces.{places_named, places_plain, read}
-use Rattle.hm_codes.proofs.ArithRows.{row_accumulate}
+use Rattle.hm_codes.proofs.ArithRows.{row_accumulate, row_long_product}
 use Rattle.hm_codes.proofs.DataRows.{row_t1, row_t2, row_t3, row_t4, row_t5, row_t6, row_t7}
 
 same_operation : (x y : DataName) → data_operation x ≡ data_operation y → x ≡ y
@@ -98,4 +99,12 @@ pub refused_accumulate : (w n a d m : ℕ) → digits (places_named row_accumula
 refused_accumulate w n a d m split refused r e =
     let stands : digits (places_named row_accumulate) w ≡ r.n.value ∷ r.a.value ∷ r.d.value ∷ r.m.value ∷ [] = read (named row_accumulate) refl w r e in
     let rules : is_accumulated r.n.value r.a.value r.d.value r.m.value ≡ true = r.rules in
+    cc
+
+pub refused_long_product : (w n l h m : ℕ) → digits (places_named row_long_product) w ≡ n ∷ l ∷ h ∷ m ∷ [] → is_long_product n l h m ≡ false
+    → (r : LongProduct) → code_long_product r ≡ w → ⊥
+refused_long_product w n l h m split refused r e =
+    let stands : digits (places_named row_long_product) w ≡ r.n.value ∷ r.l.value ∷ r.h.value ∷ r.m.value ∷ [] =
+    read (named row_long_product) refl w r e in
+    let rules : is_long_product r.n.value r.l.value r.h.value r.m.value ≡ true = r.rules in
     cc

@@ -16,7 +16,7 @@ ghost use Rattle.hm_isa.specs.declared.arith.Accumulate.{Accumulate};
 ghost use Rattle.hm_isa.specs.declared.arith.LongProduct.{LongProduct};
 ghost use Rattle.hm_isa.specs.declared.arith.T11.{T11};
 ghost use Rattle.hm_isa.specs.declared.arith.T20.{T20};
-ghost use Rattle.hm_isa.specs.Rules.{is_accumulated};
+ghost use Rattle.hm_isa.specs.Rules.{is_accumulated, is_long_product};
 ghost use Rattle.hm_isa.specs.ArithCodes.{wide_shift_base, code_t8, wide_extend_base, code_t9, bits_base, code_t10, operation_base, code_operation};
 ghost use Rattle.hm_isa.specs.ArithCodes.{accumulate_base, code_accumulate, long_product_base, code_long_product, code_t11, select_base, code_t20};
 ghost use Rattle.hm_layout.specs.Wide.{HasWord};
@@ -223,6 +223,13 @@ fn long_product_name(rest: u32) -> Option<LongProductName>
     }
 }
 
+/// Whether the row has these letters.
+fn may_be_long_product(n: u32, l: u32, h: u32, m: u32) -> bool
+    ensures { result ≡ is_long_product n l h m }
+{
+    is_general(n) && is_general(l) && is_general(h) && is_general(m) && l != h
+}
+
 /// `smull`, `umull`, `smlal`, `umlal rl,rh,rn,rm`
 fn decode_long_product(w: u32) -> Option<LongProduct>
     ensures found { IfSome result (λ r. code_long_product r ≡ w) }
@@ -232,7 +239,7 @@ fn decode_long_product(w: u32) -> Option<LongProduct>
     let l = bits(w, 12, 4);
     let h = bits(w, 8, 4);
     let m = bits(w, 0, 4);
-    if l == h || !is_general(n) || !is_general(l) || !is_general(h) || !is_general(m) {
+    if !may_be_long_product(n, l, h, m) {
         return None;
     }
     let rest = w - (n << 16) - (l << 12) - (h << 8) - m;
