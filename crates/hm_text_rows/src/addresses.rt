@@ -5,7 +5,7 @@ ghost use Rattle.hm_tokens.specs.Tokens.{comma, open_bracket};
 ghost use Rattle.hm_text_rows.specs.Shapes.{back, indexed, inside, offset, outside, scaled};
 ghost use Rattle.hm_tokens.specs.Texts.{part_token, text_tokens};
 
-use crate::shapes::{and, and_any_shift, marked, r};
+use crate::shapes::{and, and_any_shift, marked, r, with};
 use hm_isa::Bit;
 use hm_tokens::{InstrText, Mark, Part};
 
@@ -32,32 +32,25 @@ pub fn back(text: InstrText, w: Bit) -> InstrText
 }
 
 /// The text with an offset more, behind a comma, and a minus sign where it is taken away.
-fn offset(mut text: InstrText, a: Bit, n: u32) -> InstrText
+fn offset(text: InstrText, a: Bit, n: u32) -> InstrText
     requires { length text.operands.items ≤ 20 }
     ensures tokens { text_tokens result ≡ text_tokens text ++ offset a.value n }
     ensures room { length result.operands.items ≤ length text.operands.items + 4 }
 {
-    text.operands.push(Part::Mark(Mark::Comma));
-    text.operands.push(Part::Mark(Mark::Hash));
+    let begun = marked(marked(text, Mark::Comma), Mark::Hash);
     if a.get() == 0 {
-        text.operands.push(Part::Mark(Mark::Minus));
-        text.operands.push(Part::Number(n));
-        return text;
+        return with(marked(begun, Mark::Minus), Part::Number(n));
     }
-    text.operands.push(Part::Number(n));
-    text
+    with(begun, Part::Number(n))
 }
 
 /// The text with a base more, behind a comma and `[`.
-pub fn open(mut text: InstrText, base: Part) -> InstrText
+pub fn open(text: InstrText, base: Part) -> InstrText
     requires { length text.operands.items ≤ 20 }
     ensures tokens { text_tokens result ≡ text_tokens text ++ comma ∷ open_bracket ∷ part_token base ∷ [] }
     ensures room { length result.operands.items ≡ length text.operands.items + 3 }
 {
-    text.operands.push(Part::Mark(Mark::Comma));
-    text.operands.push(Part::Mark(Mark::OpenBracket));
-    text.operands.push(base);
-    text
+    with(marked(marked(text, Mark::Comma), Mark::OpenBracket), base)
 }
 
 /// The text with `[base,#n]` more, and `!` where the address is written back.

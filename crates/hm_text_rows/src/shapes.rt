@@ -1,7 +1,7 @@
 //! The shapes that texts of rows have.
 
 ghost use Rattle.std.specs.Prelude.{◌≡◌, ◌≤◌, ◌<◌, ◌+◌, ◌++◌, ◌∷◌, [], length};
-ghost use Rattle.hm_text_rows.specs.Shapes.{and_constant, and_operand, and_shift, and_any_shift, four, one, or_zero, q, r, three, two};
+ghost use Rattle.hm_text_rows.specs.Shapes.{and_constant, and_operand, constant, and_shift, and_any_shift, four, one, or_zero, q, r, three, two};
 ghost use Rattle.hm_tokens.specs.Texts.{part_token, text_tokens};
 ghost use Rattle.hm_tokens.specs.Tokens.{mark_token, word, comma};
 
@@ -87,26 +87,30 @@ pub fn one(mnemonic: &'static str, suffix: &'static str, a: Part) -> InstrText
 }
 
 /// The text with one operand more, behind a comma.
-pub fn and(mut text: InstrText, operand: Part) -> InstrText
+pub fn and(text: InstrText, operand: Part) -> InstrText
     requires { length text.operands.items ≤ 30 }
     ensures tokens { text_tokens result ≡ and_operand (text_tokens text) (part_token operand) }
     ensures room { length result.operands.items ≡ length text.operands.items + 2 }
 {
-    text.operands.push(Part::Mark(Mark::Comma));
-    text.operands.push(operand);
-    text
+    with(marked(text, Mark::Comma), operand)
+}
+
+/// The text with a constant more, with no comma before it.
+fn with_constant(text: InstrText, n: u32) -> InstrText
+    requires { length text.operands.items ≤ 37 }
+    ensures tokens { text_tokens result ≡ text_tokens text ++ constant n }
+    ensures room { length result.operands.items ≡ length text.operands.items + 2 }
+{
+    with(marked(text, Mark::Hash), Part::Number(n))
 }
 
 /// The text with a constant more, behind a comma.
-pub fn and_constant(mut text: InstrText, n: u32) -> InstrText
+pub fn and_constant(text: InstrText, n: u32) -> InstrText
     requires { length text.operands.items ≤ 30 }
     ensures tokens { text_tokens result ≡ and_constant (text_tokens text) n }
     ensures room { length result.operands.items ≡ length text.operands.items + 3 }
 {
-    text.operands.push(Part::Mark(Mark::Comma));
-    text.operands.push(Part::Mark(Mark::Hash));
-    text.operands.push(Part::Number(n));
-    text
+    with_constant(marked(text, Mark::Comma), n)
 }
 
 /// A first word and two operands.
@@ -141,16 +145,12 @@ pub fn four(
 }
 
 /// The text with a shift more, behind a comma, by 0 too: a word, as `lsl`, and a constant.
-pub fn and_any_shift(mut text: InstrText, kind: &'static str, n: u32) -> InstrText
+pub fn and_any_shift(text: InstrText, kind: &'static str, n: u32) -> InstrText
     requires { length text.operands.items ≤ 30 }
     ensures tokens { text_tokens result ≡ and_any_shift (text_tokens text) kind.now n }
     ensures room { length result.operands.items ≡ length text.operands.items + 4 }
 {
-    text.operands.push(Part::Mark(Mark::Comma));
-    text.operands.push(Part::Word(kind));
-    text.operands.push(Part::Mark(Mark::Hash));
-    text.operands.push(Part::Number(n));
-    text
+    with_constant(and(text, Part::Word(kind)), n)
 }
 
 /// The text with a shift more, behind a comma, where it is not by 0.
