@@ -1,18 +1,15 @@
 //! The tests of a file, as they are read.
 
-use crate::register::{Register, Value};
-use anyhow::{Context, Result, bail, ensure};
+use crate::register::{Register, set_core, set_registers};
+use anyhow::{Context, Result};
 use hm_isa::Below;
 use hm_mem::Actor;
 use hm_regs::Regs;
 use std::alloc::Global;
-use std::str::SplitWhitespace;
+use std::fmt::Write;
 
 /// Where the code of a test stands, if it tells no other place.
 const CODE_START: u32 = 0x400;
-
-/// How many registers a line tells at most.
-const MOST: u32 = 64;
 
 /// Bytes that stand at an address.
 #[derive(Drop)]
@@ -43,7 +40,7 @@ pub struct Case {
     pub loaded: Vec<Segment>,
     /// The bytes of SRAM that are tainted before.
     pub tainted: Vec<u32>,
-    /// How it ends, in words.
+    /// How it ends, in words; nothing where all is done.
     pub ends: String,
     pub after: Regs,
     /// The bytes of SRAM that are others afterwards.
@@ -54,82 +51,59 @@ pub struct Case {
     /// The bits of the registers that are not compared.
     pub open: u32,
     /// Lines of what the first beat touches, and of the family of the instruction.
-    pub touched: Vec<String>,
+    pub touched: String,
 }
 
-/// The next word of a line, a hexadecimal number.
-fn read_number(words: &mut SplitWhitespace<'_>) -> Result<u32> {
-    let word = words.next().context("a number is wanted")?;
-    u32::from_str_radix(word, 16).context("no number")
+/// The first word of a line, and what stands behind it.
+fn front(text: &str) -> (&str, &str) {
+    text.split_once(' ').unwrap_or((text, ""))
 }
 
-/// The rest of a line, hexadecimal numbers.
-fn numbers(words: &mut SplitWhitespace<'_>, all: &mut Vec<u32>) -> Result<()> {
-    for word in words {
-        all.push(u32::from_str_radix(word, 16).context("no number")?)?;
+/// A hexadecimal number that is all of a text.
+fn number(text: &str) -> Option<u32> {
+    u32::from_str_radix(text.trim(), 16).ok()
+}
+
+/// Adds the hexadecimal numbers of a text.
+fn add_numbers(text: &str, all: &mut Vec<u32>) -> Result<()> {
+    for word in text.split_whitespace() {
+        all.push(number(word).context("no number")?)?;
     }
     Ok(())
 }
 
-/// The halfwords of the rest of a line, as bytes.
-fn halfwords(alloc: Global, words: &mut SplitWhitespace<'_>) -> Result<Vec<u8>> {
-    let mut bytes = Vec::new(alloc);
-    for word in words {
-        let half = u16::from_str_radix(word, 16).context("no halfword")?;
-        bytes.extend_from_slice(&half.to_le_bytes())?;
-    }
-    Ok(bytes)
-}
-
 /// An address and the bytes that stand there.
-fn read_segment(alloc: Global, words: &mut SplitWhitespace<'_>) -> Result<Segment> {
-    let addr = read_number(words)?;
-    let digits = words.next().context("bytes are wanted")?;
-    let bytes = hex::decode(alloc, digits).context("no bytes")?;
+fn read_segment(alloc: Global, text: &str) -> Result<Segment> {
+    let (start, digits) = text
+        .trim()
+        .split_once(' ')
+        .context("an address and bytes are wanted")?;
+    let addr = number(start).context("no address")?;
+    let bytes = hex::decode(alloc, digits.trim()).context("no bytes")?;
     Ok(Segment { addr, bytes })
 }
 
-/// The registers of the rest of a line and what stands in them, given the name of the first.
-fn read_registers<'a>(
-    alloc: Global,
-    first: &'a str,
-    words: &mut SplitWhitespace<'a>,
-) -> Result<Vec<(Register, Value)>> {
-    let mut all = Vec::new(alloc);
-    let mut name = first;
-    for _ in 0..MOST {
-        let register = Register::of(name).context("no register")?;
-        let value = register.read(words).context("no value")?;
-        all.push((register, value))?;
-        match words.next() {
-            Some(next) => name = next,
-            None => return Ok(all),
-        }
-    }
-    bail!("too many registers")
+/// Adds an address and the bytes that stand there.
+fn add_segment(alloc: Global, text: &str, all: &mut Vec<Segment>) -> Result<()> {
+    all.push(read_segment(alloc, text)?)?;
+    Ok(())
 }
 
 /// The address behind code.
-fn behind(start: u32, code: &[u8]) -> Result<u32> {
-    let len = u32::try_from(code.len()).ok().context("too much code")?;
-    start.checked_add(len).context("code past all addresses")
+fn behind(start: u32, code: &[u8]) -> Option<u32> {
+    start.checked_add(u32::try_from(code.len()).ok()?)
 }
 
 impl Case {
-    /// The test that a line with a row and code begins.
-    fn begin(alloc: Global, line: usize, words: &mut SplitWhitespace<'_>) -> Result<Case> {
-        let row = words.next().context("a row is wanted")?;
-        let code = halfwords(alloc, words)?;
+    /// A test that begins at a line, of which nothing else is told.
+    fn new(alloc: Global, line: usize) -> Case {
         let mut before = Regs::start(0, CODE_START);
         before.fpca = true;
-        let behind = behind(CODE_START, &code)?;
-        let mut after = before;
-        after.pc = behind;
-        Ok(Case {
+        Case {
             line,
-            row: String::from_str(alloc, row)?,
-            code,
-            behind,
+            row: String::new(alloc),
+            code: Vec::new(alloc),
+            behind: CODE_START,
             steps: None,
             first_beat: Below::new(0),
             past_beat: Below::new(4),
@@ -137,132 +111,130 @@ impl Case {
             before,
             loaded: Vec::new(alloc),
             tainted: Vec::new(alloc),
-            ends: String::from_str(alloc, "done")?,
-            after,
+            ends: String::new(alloc),
+            after: before,
             written: Vec::new(alloc),
             still_tainted: Vec::new(alloc),
             clean: Vec::new(alloc),
             open: 0,
-            touched: Vec::new(alloc),
-        })
+            touched: String::new(alloc),
+        }
+    }
+
+    /// Takes the row and the halfwords of the code.
+    fn begin(&mut self, text: &str) -> Result<()> {
+        let (row, code) = text.split_once(' ').context("a row and code are wanted")?;
+        self.row.push_str(row)?;
+        for word in code.split_whitespace() {
+            let half = u16::from_str_radix(word, 16).context("no halfword")?;
+            self.code.extend_from_slice(&half.to_le_bytes())?;
+        }
+        self.move_to(CODE_START).context("too much code")
     }
 
     /// Takes another address of the code.
-    fn move_to(&mut self, start: u32) -> Result<()> {
+    fn move_to(&mut self, start: u32) -> Option<()> {
         self.before.pc = start;
         self.behind = behind(start, &self.code)?;
         self.after.pc = self.behind;
-        Ok(())
+        Some(())
     }
 
-    /// Takes the last beat that is done.
-    fn end_with(&mut self, beat: u32) -> Result<()> {
-        let past = beat.checked_add(1).context("no beat")?;
-        self.past_beat = Below::of(past).context("no beat")?;
-        Ok(())
-    }
-
-    /// Takes what stands in a register before, and also afterwards where nothing else is told.
-    fn set_before(&mut self, register: Register, value: Value) {
-        register.set(value, &mut self.before);
-        register.set(value, &mut self.after);
-    }
-
-    /// Takes what stands in registers before.
-    fn set_registers<'a>(
-        &mut self,
-        alloc: Global,
-        name: &'a str,
-        words: &mut SplitWhitespace<'a>,
-    ) -> Result<()> {
-        for (register, value) in &read_registers(alloc, name, words)? {
-            self.set_before(*register, *value);
+    /// Takes a line that tells a number.
+    fn take_number(&mut self, name: &str, text: &str) -> Option<()> {
+        let number = number(text)?;
+        match name {
+            "at" => self.move_to(number)?,
+            "steps" => self.steps = Some(number),
+            "beat" => self.first_beat = Below::of(number)?,
+            "last" => self.past_beat = Below::of(number.checked_add(1)?)?,
+            "handler" => self.actor = Actor::Handler { frame: number },
+            _ => return None,
         }
-        Ok(())
+        Some(())
     }
 
-    /// Takes r0 to r12, sp and lr.
-    fn set_core(&mut self, words: &mut SplitWhitespace<'_>) -> Result<()> {
-        for n in 0_u32..15 {
-            let register = Register::Core(Below::new(n));
-            let value = register.read(words).context("no value")?;
-            self.set_before(register, value);
-        }
-        Ok(())
+    /// Takes what stands in r0 to r12, sp and lr before, and also afterwards where nothing else is told.
+    fn take_core(&mut self, text: &str) -> Option<()> {
+        set_core(text, &mut self.before)?;
+        set_core(text, &mut self.after)
+    }
+
+    /// Takes what stands in registers before, and also afterwards where nothing else is told.
+    fn take_registers(&mut self, text: &str) -> Option<()> {
+        set_registers(text, &mut self.before)?;
+        set_registers(text, &mut self.after)
     }
 
     /// Takes what is another afterwards: bytes of memory, their taint, or registers.
-    fn change(&mut self, alloc: Global, words: &mut SplitWhitespace<'_>) -> Result<()> {
-        let name = words.next().context("a name is wanted")?;
+    fn change(&mut self, alloc: Global, text: &str) -> Result<()> {
+        let (name, rest) = front(text);
         match name {
-            "bytes" => self.written.push(read_segment(alloc, words)?)?,
-            "tainted" => numbers(words, &mut self.still_tainted)?,
-            "clean" => numbers(words, &mut self.clean)?,
-            _ => {
-                for (register, value) in &read_registers(alloc, name, words)? {
-                    register.set(*value, &mut self.after);
-                }
-            }
+            "bytes" => add_segment(alloc, rest, &mut self.written),
+            "tainted" => add_numbers(rest, &mut self.still_tainted),
+            "clean" => add_numbers(rest, &mut self.clean),
+            _ => set_registers(text, &mut self.after).context("no registers"),
         }
-        Ok(())
     }
 
     /// Takes registers that are not compared.
-    fn leave_open(&mut self, words: &mut SplitWhitespace<'_>) -> Result<()> {
-        for name in words {
-            self.open |= Register::of(name).context("no register")?.flag();
+    fn leave_open(&mut self, names: &str) -> Option<()> {
+        for name in names.split_whitespace() {
+            self.open |= Register::of(name)?.flag();
         }
+        Some(())
+    }
+
+    /// Takes how it ends.
+    fn end_so(&mut self, ending: &str) -> Result<()> {
+        self.ends.clear();
+        self.ends.push_str(ending)?;
         Ok(())
     }
 
-    /// Takes a line of words that is not the first.
-    fn take_words<'a>(&mut self, alloc: Global, name: &'a str, rest: &'a str) -> Result<()> {
-        let mut words = rest.split_whitespace();
-        match name {
-            "at" => self.move_to(read_number(&mut words)?)?,
-            "steps" => self.steps = Some(read_number(&mut words)?),
-            "beat" => self.first_beat = Below::of(read_number(&mut words)?).context("no beat")?,
-            "last" => self.end_with(read_number(&mut words)?)?,
-            "handler" => self.actor = Actor::Handler {
-                frame: read_number(&mut words)?,
-            },
-            "bytes" => self.loaded.push(read_segment(alloc, &mut words)?)?,
-            "tainted" => numbers(&mut words, &mut self.tainted)?,
-            "regs" => self.set_core(&mut words)?,
-            "then" => self.change(alloc, &mut words)?,
-            "any" => self.leave_open(&mut words)?,
-            "end" => {}
-            _ => self.set_registers(alloc, name, &mut words)?,
-        }
-        ensure!(words.next().is_none(), "a word too many");
+    /// Takes a line of what the first beat touches.
+    fn touch(&mut self, text: &str) -> Result<()> {
+        writeln!(self.touched, "{text}")?;
         Ok(())
     }
 
-    /// Takes a line that is not the first, given its name and what stands behind that.
-    fn take<'a>(&mut self, alloc: Global, text: &str, name: &'a str, rest: &'a str) -> Result<()> {
+    /// Takes a line of numbers or registers.
+    fn take_words(&mut self, name: &str, rest: &str, text: &str) -> Option<()> {
         match name {
-            "ends" => self.ends = String::from_str(alloc, rest)?,
-            "reads" | "writes" | "loads" | "stores" | "family" => {
-                self.touched.push(String::from_str(alloc, text)?)?;
-            }
-            _ => self.take_words(alloc, name, rest)?,
+            "at" | "steps" | "beat" | "last" | "handler" => self.take_number(name, rest),
+            "regs" => self.take_core(rest),
+            "any" => self.leave_open(rest),
+            "end" if rest.is_empty() => Some(()),
+            _ => self.take_registers(text),
         }
-        Ok(())
+    }
+
+    /// Takes a line.
+    fn take(&mut self, alloc: Global, text: &str) -> Result<()> {
+        let (name, rest) = front(text);
+        match name {
+            "code" => self.begin(rest),
+            "bytes" => add_segment(alloc, rest, &mut self.loaded),
+            "tainted" => add_numbers(rest, &mut self.tainted),
+            "then" => self.change(alloc, rest),
+            "ends" => self.end_so(rest),
+            "reads" | "writes" | "loads" | "stores" | "family" => self.touch(text),
+            _ => self
+                .take_words(name, rest, text)
+                .context("no number or register, or a word too many"),
+        }
     }
 }
 
 /// Reads a line of a file, given its number. A line without words, or whose first is `#`, tells nothing.
 fn read_line(alloc: Global, line: usize, text: &str, cases: &mut Vec<Case>) -> Result<()> {
-    let (name, rest) = text.split_once(' ').unwrap_or((text, ""));
-    match name {
-        "" | "#" => {}
-        "code" => cases.push(Case::begin(alloc, line, &mut rest.split_whitespace())?)?,
-        _ => {
-            let case = cases.last_mut().context("no test has begun")?;
-            case.take(alloc, text, name, rest)?;
-        }
+    match front(text).0 {
+        "" | "#" => return Ok(()),
+        "code" => cases.push(Case::new(alloc, line))?,
+        _ => {}
     }
-    Ok(())
+    let case = cases.last_mut().context("no test has begun")?;
+    case.take(alloc, text)
 }
 
 /// The tests of a file in their order.

@@ -36,58 +36,69 @@ fn lay(target: &mut [u8], at: usize, bytes: &[u8]) -> Option<()> {
     Some(())
 }
 
-/// Lays the segments that lie in SRAM over it.
-fn lay_in_sram(sram: &mut [u8], segments: &[Segment]) -> Result<()> {
+/// Lays the segments that begin in flash over it.
+fn lay_in_flash(flash: &mut [u8], segments: &[Segment]) -> Option<()> {
     for segment in segments {
-        if let Some(at) = segment.addr.checked_sub(SRAM_START) {
-            lay(sram, at as usize, &segment.bytes).context("bytes past SRAM")?;
+        if segment.addr < FLASH_SIZE {
+            lay(flash, segment.addr as usize, &segment.bytes)?;
         }
     }
-    Ok(())
+    Some(())
+}
+
+/// Lays the segments that begin in SRAM, or behind it, over it.
+fn lay_in_sram(sram: &mut [u8], segments: &[Segment]) -> Option<()> {
+    for segment in segments {
+        if let Some(at) = segment.addr.checked_sub(SRAM_START) {
+            lay(sram, at as usize, &segment.bytes)?;
+        }
+    }
+    Some(())
 }
 
 /// Flash before a test, given flash with `nop` everywhere.
 fn flash_before(alloc: Global, blank: &[u8], case: &Case) -> Result<Vec<u8>> {
     let mut flash = copied(alloc, blank)?;
     lay(&mut flash, case.before.pc as usize, &case.code).context("code past flash")?;
-    for segment in &case.loaded {
-        if segment.addr < FLASH_SIZE {
-            lay(&mut flash, segment.addr as usize, &segment.bytes).context("bytes past flash")?;
-        }
-    }
+    lay_in_flash(&mut flash, &case.loaded).context("bytes past flash")?;
     Ok(flash)
 }
 
 /// SRAM before a test.
 fn sram_before(alloc: Global, case: &Case) -> Result<Vec<u8>> {
     let mut sram = vec![in alloc; 0; SRAM_SIZE as usize]?;
-    lay_in_sram(&mut sram, &case.loaded)?;
+    lay_in_sram(&mut sram, &case.loaded).context("bytes past SRAM")?;
     Ok(sram)
 }
 
 /// SRAM after a test.
 pub fn sram_after(alloc: Global, case: &Case) -> Result<Vec<u8>> {
     let mut sram = sram_before(alloc, case)?;
-    lay_in_sram(&mut sram, &case.written)?;
+    lay_in_sram(&mut sram, &case.written).context("bytes past SRAM")?;
     Ok(sram)
 }
 
 /// Has bytes of SRAM tainted.
-fn taint(mem: &mut Mem, addresses: &[u32]) -> Result<()> {
+fn taint(mem: &mut Mem, addresses: &[u32]) -> Option<()> {
     mem.set_actor(Actor::Entry);
     for addr in addresses {
-        let byte = mem.byte(*addr).context("no memory there")?;
-        let stored = mem.store(*addr, 1, byte as u32, Access::Scalar);
-        stored.ok().context("no SRAM there")?;
+        let byte = mem.byte(*addr)?;
+        mem.store(*addr, 1, byte as u32, Access::Scalar).ok()?;
     }
-    Ok(())
+    Some(())
+}
+
+/// Flash and SRAM before a test, given flash with `nop` everywhere.
+fn image_before(alloc: Global, blank: &[u8], case: &Case) -> Result<Image> {
+    let mut image = Image::new(alloc);
+    image.add(0, flash_before(alloc, blank, case)?)?;
+    image.add(SRAM_START, sram_before(alloc, case)?)?;
+    Ok(image)
 }
 
 /// The memory before a test, given flash with `nop` everywhere.
 pub fn memory_before(alloc: Global, blank: &[u8], case: &Case) -> Result<Mem> {
-    let mut image = Image::new(alloc);
-    image.add(0, flash_before(alloc, blank, case)?)?;
-    image.add(SRAM_START, sram_before(alloc, case)?)?;
+    let image = image_before(alloc, blank, case)?;
     let mut mem = Mem::new(
         alloc,
         &image,
@@ -96,7 +107,7 @@ pub fn memory_before(alloc: Global, blank: &[u8], case: &Case) -> Result<Mem> {
         STACK_FLOOR,
         STACK_FLOOR,
     )?;
-    taint(&mut mem, &case.tainted)?;
+    taint(&mut mem, &case.tainted).context("no SRAM there")?;
     mem.set_actor(case.actor);
     Ok(mem)
 }

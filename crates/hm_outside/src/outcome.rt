@@ -2,39 +2,54 @@
 
 use crate::case::Case;
 use crate::contents::{memory_before, sram_after};
-use crate::perform::{first_touch, perform};
+use crate::perform::{Ending, add_first_touch, perform};
 use crate::register::Register;
 use anyhow::Result;
-use hm_base::SRAM_START;
+use hm_base::{SRAM_SIZE, SRAM_START};
 use hm_mem::Mem;
 use hm_regs::Regs;
-use std::alloc::Global;
+use std::alloc::{AllocError, Global};
+use std::fmt::Write;
+
+/// Tells the ending that is not as told.
+fn compare_ending(
+    alloc: Global,
+    ending: Ending,
+    case: &Case,
+    all: &mut String,
+) -> Result<(), AllocError> {
+    let ends = ending.to_string(alloc)?;
+    let told = if case.ends.is_empty() {
+        "done"
+    } else {
+        case.ends.as_str()
+    };
+    if ends.as_str() != told {
+        writeln!(all, "{ends}, told {told}")?;
+    }
+    Ok(())
+}
 
 /// Tells the registers that are not as told.
-fn compare_registers(
-    alloc: Global,
-    case: &Case,
-    registers: &[Register],
-    regs: &Regs,
-    all: &mut Vec<String>,
-) -> Result<()> {
-    for register in registers {
+fn compare_registers(case: &Case, regs: &Regs, all: &mut String) -> Result<(), AllocError> {
+    for register in Register::all() {
         let here = register.told(regs);
         let told = register.told(&case.after);
         if here.value != told.value && case.open & register.flag() == 0 {
-            all.push(format!(in alloc; "{here}, told {told}")?)?;
+            writeln!(all, "{here}, told {told}")?;
         }
     }
     Ok(())
 }
 
 /// Tells the first byte of SRAM that is not as told.
-fn compare_sram(alloc: Global, mem: &Mem, told: &[u8], all: &mut Vec<String>) -> Result<()> {
-    for (addr, told) in (SRAM_START..u32::MAX).zip(told) {
+fn compare_sram(mem: &Mem, told: &[u8], all: &mut String) -> Result<(), AllocError> {
+    for k in 0..SRAM_SIZE {
+        let addr = SRAM_START + k;
         let here = mem.byte(addr).unwrap_or(0);
-        if here != *told {
-            all.push(format!(in alloc; "byte {addr:08x} {here:02x}, told {told:02x}")?)?;
-            return Ok(());
+        let told = told.get(k as usize).copied().unwrap_or(0);
+        if here != told {
+            return writeln!(all, "byte {addr:08x} {here:02x}, told {told:02x}");
         }
     }
     Ok(())
@@ -42,18 +57,30 @@ fn compare_sram(alloc: Global, mem: &Mem, told: &[u8], all: &mut Vec<String>) ->
 
 /// Tells the bytes whose taint is not this.
 fn compare_taint(
-    alloc: Global,
     mem: &Mem,
     addresses: &[u32],
     wanted: bool,
-    all: &mut Vec<String>,
-) -> Result<()> {
+    all: &mut String,
+) -> Result<(), AllocError> {
     for addr in addresses {
         if mem.tainted(*addr) != wanted {
-            all.push(format!(in alloc; "taint of byte {addr:08x}, told {wanted}")?)?;
+            writeln!(all, "taint of byte {addr:08x}, told {wanted}")?;
         }
     }
     Ok(())
+}
+
+/// Tells the bytes of SRAM and their taint that are not as told.
+fn compare_memory(alloc: Global, case: &Case, mem: &Mem, all: &mut String) -> Result<()> {
+    compare_sram(mem, &sram_after(alloc, case)?, all)?;
+    compare_taint(mem, &case.still_tainted, true, all)?;
+    compare_taint(mem, &case.clean, false, all)?;
+    Ok(())
+}
+
+/// Whether a text has a line.
+fn has_line(text: &str, line: &str) -> bool {
+    text.lines().any(|other| other == line)
 }
 
 /// Tells the lines of what the first beat touches that are not as told.
@@ -62,39 +89,32 @@ fn compare_touched(
     case: &Case,
     mem: &Mem,
     regs: &Regs,
-    all: &mut Vec<String>,
-) -> Result<()> {
-    if case.touched.is_empty() {
-        return Ok(());
-    }
-    let lines = first_touch(alloc, case, mem, regs)?;
-    for told in &case.touched {
-        if !lines.contains(told) {
-            all.push(format!(in alloc; "it touches others, told {told}")?)?;
+    all: &mut String,
+) -> Result<(), AllocError> {
+    let mut lines = String::new(alloc);
+    add_first_touch(case, mem, regs, &mut lines)?;
+    for told in case.touched.lines() {
+        if !has_line(&lines, told) {
+            writeln!(all, "it touches others, told {told}")?;
         }
     }
     Ok(())
 }
 
-/// What differs from what is told of a test, a line each, given flash with `nop` everywhere and the registers to compare.
-pub fn differences(
-    alloc: Global,
-    case: &Case,
-    flash: &[u8],
-    registers: &[Register],
-) -> Result<Vec<String>> {
-    let mut mem = memory_before(alloc, flash, case)?;
+/// Tells what differs from what is told of a test, given the memory before it.
+fn compare(alloc: Global, case: &Case, mem: &mut Mem, all: &mut String) -> Result<()> {
     let mut regs = case.before;
-    let mut all = Vec::new(alloc);
-    compare_touched(alloc, case, &mem, &regs, &mut all)?;
-    let ending = perform(case, &mut regs, &mut mem);
-    let ends = format!(in alloc; "{ending}")?;
-    if ends != case.ends {
-        all.push(format!(in alloc; "{ends}, told {}", case.ends)?)?;
-    }
-    compare_registers(alloc, case, registers, &regs, &mut all)?;
-    compare_sram(alloc, &mem, &sram_after(alloc, case)?, &mut all)?;
-    compare_taint(alloc, &mem, &case.still_tainted, true, &mut all)?;
-    compare_taint(alloc, &mem, &case.clean, false, &mut all)?;
+    compare_touched(alloc, case, mem, &regs, all)?;
+    let ending = perform(case, &mut regs, mem);
+    compare_ending(alloc, ending, case, all)?;
+    compare_registers(case, &regs, all)?;
+    compare_memory(alloc, case, mem, all)
+}
+
+/// What differs from what is told of a test, a line each, given flash with `nop` everywhere.
+pub fn differences(alloc: Global, case: &Case, flash: &[u8]) -> Result<String> {
+    let mut mem = memory_before(alloc, flash, case)?;
+    let mut all = String::new(alloc);
+    compare(alloc, case, &mut mem, &mut all)?;
     Ok(all)
 }

@@ -4,8 +4,7 @@ ghost use Rattle.std.specs.Prelude.{◌≡◌, ◌<◌, IsTrue, not};
 ghost use Rattle.hm_thumb.specs.Families.{is_vector_row};
 
 use crate::case::Case;
-use crate::touched::lines;
-use anyhow::{Result as Fallible, bail};
+use crate::touched::add_touch;
 use hm_base::Stop;
 use hm_beat::BeatWise;
 use hm_decode::fetch;
@@ -14,8 +13,8 @@ use hm_isa::{Below, Flow, Instr, Vector};
 use hm_lane::context;
 use hm_mem::Mem;
 use hm_regs::Regs;
-use std::alloc::Global;
-use std::fmt;
+use std::alloc::AllocError;
+use std::fmt::{self, Write};
 
 /// How many instructions a test may take that does not tell.
 const MOST: u32 = 1000;
@@ -34,19 +33,29 @@ pub enum Ending {
     Unforeseen,
 }
 
+/// Writes a name and the word that belongs to it.
+fn write_word<W: fmt::Write>(f: &mut fmt::Formatter<W>, name: &str, word: u32) -> fmt::Result {
+    write!(f, "{name} {word:08x}")
+}
+
+/// Writes why a test stops.
+fn write_stop<W: fmt::Write>(f: &mut fmt::Formatter<W>, stop: Stop) -> fmt::Result {
+    match stop {
+        Stop::Fault(fault) => write!(f, "fault {:?} {:08x}", fault.kind, fault.addr),
+        Stop::Tainted { addr } => write_word(f, "tainted", addr),
+        Stop::Denied { addr } => write_word(f, "denied", addr),
+    }
+}
+
 impl fmt::Display for Ending {
     fn fmt<W: fmt::Write>(&self, f: &mut fmt::Formatter<W>) -> fmt::Result {
         match self {
-            Ending::Done => write!(f, "done"),
-            Ending::Stopped(Stop::Fault(fault)) => {
-                write!(f, "fault {:?} {:08x}", fault.kind, fault.addr)
-            }
-            Ending::Stopped(Stop::Tainted { addr }) => write!(f, "tainted {addr:08x}"),
-            Ending::Stopped(Stop::Denied { addr }) => write!(f, "denied {addr:08x}"),
+            Ending::Done => f.write_str("done"),
+            Ending::Stopped(stop) => write_stop(f, *stop),
             Ending::Break(k) => write!(f, "breakpoint {k:02x}"),
-            Ending::Return(value) => write!(f, "return {value:08x}"),
-            Ending::TooLong => write!(f, "too long"),
-            Ending::Unforeseen => write!(f, "unforeseen"),
+            Ending::Return(value) => write_word(f, "return", *value),
+            Ending::TooLong => f.write_str("too long"),
+            Ending::Unforeseen => f.write_str("unforeseen"),
         }
     }
 }
@@ -84,19 +93,15 @@ fn other_step(i: &Instr, regs: &mut Regs, mem: &mut Mem) -> Result<(), Ending>
     }
 }
 
-/// Does an instruction.
-fn any_step(i: &Instr, case: &Case, regs: &mut Regs, mem: &mut Mem) -> Result<(), Ending> {
-    match i {
-        Instr::Scalar(_) | Instr::Branch(_) => other_step(i, regs, mem),
-        Instr::Vector(v) => vector_step(v, case, regs, mem),
-    }
-}
-
 /// Does the instruction at the program counter.
 fn next_step(case: &Case, regs: &mut Regs, mem: &mut Mem) -> Result<(), Ending> {
-    match fetch(mem, regs.pc) {
-        Ok(i) => any_step(&i, case, regs, mem),
-        Err(fault) => Err(Ending::Stopped(Stop::Fault(fault))),
+    let i = match fetch(mem, regs.pc) {
+        Ok(i) => i,
+        Err(fault) => return Err(Ending::Stopped(Stop::Fault(fault))),
+    };
+    match &i {
+        Instr::Scalar(_) | Instr::Branch(_) => other_step(&i, regs, mem),
+        Instr::Vector(v) => vector_step(v, case, regs, mem),
     }
 }
 
@@ -131,45 +136,42 @@ pub fn perform(case: &Case, regs: &mut Regs, mem: &mut Mem) -> Ending {
     }
 }
 
-/// The name of the family of a vector instruction.
-fn family(row: &Any) -> &'static str {
+/// The line of the family of a vector instruction.
+fn family_line(row: &Any) -> &'static str {
     match row {
-        Any::Arith(_) => "Arith",
-        Any::Wide(_) => "Wide",
-        Any::Reduce(_) => "Reduce",
-        Any::Perm(_) => "Perm",
-        Any::Compare(_) => "Compare",
-        Any::Straight(_) => "Straight",
-        Any::Gather(_) => "Gather",
-        Any::Inter(_) => "Inter",
+        Any::Arith(_) => "family Arith",
+        Any::Wide(_) => "family Wide",
+        Any::Reduce(_) => "family Reduce",
+        Any::Perm(_) => "family Perm",
+        Any::Compare(_) => "family Compare",
+        Any::Straight(_) => "family Straight",
+        Any::Gather(_) => "family Gather",
+        Any::Inter(_) => "family Inter",
     }
 }
 
-/// The family of a vector instruction, and what a beat of it touches, a line each.
-fn vector_lines(alloc: Global, v: &Vector, b: Below<4>, regs: &Regs) -> Fallible<Vec<String>>
+/// Adds what a beat of a vector instruction touches, and the family, a line each.
+fn add_vector(v: &Vector, b: Below<4>, regs: &Regs, lines: &mut String) -> Result<(), AllocError>
     requires { IsTrue regs.now.fpca }
 {
     let row = any(v);
-    let mut all = lines(alloc, &row.touch(b.get() as u8, regs))?;
-    all.push(format!(in alloc; "family {}", family(&row))?)?;
-    Ok(all)
+    add_touch(&row.touch(b.get() as u8, regs), lines)?;
+    lines.push_str(family_line(&row))
 }
 
-/// The lines of what the first beat of a test touches, if this is its instruction.
-fn touch_lines(alloc: Global, i: &Instr, case: &Case, regs: &Regs) -> Fallible<Vec<String>> {
-    if !regs.fpca {
-        bail!("there is no context");
-    }
-    match i {
-        Instr::Scalar(_) | Instr::Branch(_) => bail!("it has no beats"),
-        Instr::Vector(v) => vector_lines(alloc, v, case.first_beat, regs),
-    }
-}
-
-/// The lines of what the first beat of a test touches.
-pub fn first_touch(alloc: Global, case: &Case, mem: &Mem, regs: &Regs) -> Fallible<Vec<String>> {
-    match fetch(mem, regs.pc) {
-        Ok(i) => touch_lines(alloc, &i, case, regs),
-        Err(_) => bail!("there is no instruction"),
+/// Adds the lines of what the first beat of a test touches: none if there is no context, or no vector instruction.
+pub fn add_first_touch(
+    case: &Case,
+    mem: &Mem,
+    regs: &Regs,
+    lines: &mut String,
+) -> Result<(), AllocError> {
+    let i = match fetch(mem, regs.pc) {
+        Ok(i) => i,
+        Err(_) => return Ok(()),
+    };
+    match &i {
+        Instr::Vector(v) if regs.fpca => add_vector(v, case.first_beat, regs, lines),
+        _ => Ok(()),
     }
 }

@@ -6,7 +6,6 @@ ghost use Rattle.hm_base.specs.Place.{IsPlace};
 use hm_base::Place;
 use hm_isa::Below;
 use hm_regs::Regs;
-use std::alloc::{AllocError, Global};
 use std::fmt;
 use std::str::SplitWhitespace;
 
@@ -43,6 +42,9 @@ const OTHERS: [Register; 8] = [
     Register::Fpca,
 ];
 
+/// How many registers a line tells at most.
+const MOST: u32 = 64;
+
 /// The words of a vector register from the lowest on; all other registers have the first alone.
 pub type Value = [u32; 4];
 
@@ -58,17 +60,22 @@ impl fmt::Display for Told {
         let [word, b, c, d] = self.value;
         match self.register {
             Register::Core(n) => write!(f, "r{} {word:08x}", n.get()),
-            Register::Flags => write!(f, "flags {word:05b}"),
-            Register::Fpscr => write!(f, "fpscr {word:08x}"),
-            Register::Vpr => write!(f, "vpr {word:08x}"),
-            Register::Pc => write!(f, "pc {word:08x}"),
-            Register::It => write!(f, "it {word:02x}"),
-            Register::Primask => write!(f, "primask {word}"),
-            Register::Ipsr => write!(f, "ipsr {word:x}"),
-            Register::Fpca => write!(f, "fpca {word}"),
             Register::Vector(n) => write!(f, "q{} {word:08x} {b:08x} {c:08x} {d:08x}", n.get()),
+            Register::Flags => write!(f, "flags {word:05b}"),
+            other => write_other(f, other, word),
         }
     }
+}
+
+/// Writes a register that is neither numbered nor flags, and what stands in it.
+fn write_other<W: fmt::Write>(
+    f: &mut fmt::Formatter<W>,
+    register: Register,
+    word: u32,
+) -> fmt::Result {
+    let name = register.name();
+    let width = register.width();
+    write!(f, "{name} {word:0width$x}")
 }
 
 /// A number with this one bit where the flag is set.
@@ -112,45 +119,68 @@ fn words(n: Below<8>, regs: &Regs) -> Value {
     ]
 }
 
-/// The register `r` with this number, or `q`.
+/// The register of a letter and a number.
 fn numbered(name: &str) -> Option<Register> {
-    if let Some(number) = name.strip_prefix('r') {
-        return Some(Register::Core(Below::of(number.parse::<u32>().ok()?)?));
+    let (letter, digits) = name.split_at_checked(1)?;
+    let number = digits.parse::<u32>().ok()?;
+    match letter {
+        "r" => Some(Register::Core(Below::of(number)?)),
+        "q" => Some(Register::Vector(Below::of(number)?)),
+        _ => None,
     }
-    let number = name.strip_prefix('q')?;
-    Some(Register::Vector(Below::of(number.parse::<u32>().ok()?)?))
 }
 
 impl Register {
     /// All registers, in the order in which they are compared.
-    pub fn all(alloc: Global) -> Result<Vec<Register>, AllocError> {
-        let mut all = Vec::new(alloc);
+    pub fn all() -> [Register; 31] {
+        let mut all = [Register::Flags; 31];
         for n in 0_u32..15 {
-            all.push(Register::Core(Below::new(n)))?;
+            all[n as usize] = Register::Core(Below::new(n));
         }
-        for register in OTHERS {
-            all.push(register)?;
-        }
+        all[15..23].copy_from_slice(&OTHERS);
         for n in 0_u32..8 {
-            all.push(Register::Vector(Below::new(n)))?;
+            all[23 + n as usize] = Register::Vector(Below::new(n));
         }
-        Ok(all)
+        all
     }
 
     /// The register of a name.
     pub fn of(name: &str) -> Option<Register> {
+        for register in OTHERS {
+            if register.name() == name {
+                return Some(register);
+            }
+        }
         match name {
             "sp" => Some(Register::Core(Below::new(13))),
             "lr" => Some(Register::Core(Below::new(14))),
-            "flags" => Some(Register::Flags),
-            "fpscr" => Some(Register::Fpscr),
-            "vpr" => Some(Register::Vpr),
-            "pc" => Some(Register::Pc),
-            "it" => Some(Register::It),
-            "primask" => Some(Register::Primask),
-            "ipsr" => Some(Register::Ipsr),
-            "fpca" => Some(Register::Fpca),
             _ => numbered(name),
+        }
+    }
+
+    /// Its name, without a number.
+    fn name(self) -> &'static str {
+        match self {
+            Register::Core(_) => "r",
+            Register::Flags => "flags",
+            Register::Fpscr => "fpscr",
+            Register::Vpr => "vpr",
+            Register::Pc => "pc",
+            Register::It => "it",
+            Register::Primask => "primask",
+            Register::Ipsr => "ipsr",
+            Register::Fpca => "fpca",
+            Register::Vector(_) => "q",
+        }
+    }
+
+    /// How many digits of a word of it are written at least.
+    fn width(self) -> usize {
+        match self {
+            Register::Primask | Register::Ipsr | Register::Fpca => 1,
+            Register::It => 2,
+            Register::Flags => 5,
+            _ => 8,
         }
     }
 
@@ -192,9 +222,9 @@ impl Register {
     }
 
     /// The value that the next words of a line tell.
-    pub fn read(self, words: &mut SplitWhitespace<'_>) -> Option<Value> {
+    fn read(self, words: &mut SplitWhitespace<'_>) -> Option<Value> {
         let mut value = [0; 4];
-        for word in value.iter_mut().take(self.word_count()) {
+        for word in &mut value[..self.word_count()] {
             *word = u32::from_str_radix(words.next()?, self.radix()).ok()?;
         }
         Some(value)
@@ -225,7 +255,7 @@ impl Register {
     }
 
     /// Puts a value into it.
-    pub fn set(self, value: Value, regs: &mut Regs) {
+    fn set(self, value: Value, regs: &mut Regs) {
         match self {
             Register::Core(n) => regs.set(Place::R(n.get() as u8), value[0]),
             Register::Flags => set_flags(regs, value[0]),
@@ -243,4 +273,38 @@ impl Register {
             }
         }
     }
+}
+
+/// Puts into a register what the next words of a line tell of it.
+fn set_register(name: &str, words: &mut SplitWhitespace<'_>, regs: &mut Regs) -> Option<()> {
+    let register = Register::of(name)?;
+    register.set(register.read(words)?, regs);
+    Some(())
+}
+
+/// Puts into registers what a line tells of them, each by its name.
+pub fn set_registers(line: &str, regs: &mut Regs) -> Option<()> {
+    let mut words = line.split_whitespace();
+    let mut name = words.next()?;
+    for _ in 0..MOST {
+        set_register(name, &mut words, regs)?;
+        match words.next() {
+            Some(next) => name = next,
+            None => return Some(()),
+        }
+    }
+    None
+}
+
+/// Puts into r0 to r12, sp and lr what a text tells of them in this order.
+pub fn set_core(text: &str, regs: &mut Regs) -> Option<()> {
+    let mut words = text.split_whitespace();
+    for n in 0_u32..15 {
+        let register = Register::Core(Below::new(n));
+        register.set(register.read(&mut words)?, regs);
+    }
+    if words.next().is_some() {
+        return None;
+    }
+    Some(())
 }

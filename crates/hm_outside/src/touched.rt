@@ -1,34 +1,32 @@
 //! What a beat touches, in words.
 
-use anyhow::Result;
 use hm_base::{Places, Spans};
 use hm_beat::Touch;
-use std::alloc::Global;
+use std::alloc::AllocError;
+use std::fmt::Write;
 
-/// A line of places.
-fn places_line(alloc: Global, name: &str, places: &Places) -> Result<String> {
-    let mut line = String::from_str(alloc, name)?;
+/// Adds a line of places.
+fn add_places(name: &str, places: &Places, lines: &mut String) -> Result<(), AllocError> {
+    lines.push_str(name)?;
     for k in 0..places.len() {
-        line = format!(in alloc; "{line} {:?}", places.at(k))?;
+        write!(lines, " {:?}", places.at(k))?;
     }
-    Ok(line)
+    lines.push('\n')
 }
 
-/// A line of bytes of memory.
-fn spans_line(alloc: Global, name: &str, spans: &Spans) -> Result<String> {
-    let mut line = String::from_str(alloc, name)?;
+/// Adds a line of bytes of memory.
+fn add_spans(name: &str, spans: &Spans, lines: &mut String) -> Result<(), AllocError> {
+    lines.push_str(name)?;
     for span in spans.as_slice() {
-        line = format!(in alloc; "{line} {:08x}+{}", span.addr, span.len)?;
+        write!(lines, " {:08x}+{}", span.addr, span.len)?;
     }
-    Ok(line)
+    lines.push('\n')
 }
 
-/// What a beat reads, writes, loads and stores, a line each.
-pub fn lines(alloc: Global, touch: &Touch) -> Result<Vec<String>> {
-    let mut all = Vec::new(alloc);
-    all.push(places_line(alloc, "reads", &touch.reads)?)?;
-    all.push(places_line(alloc, "writes", &touch.writes)?)?;
-    all.push(spans_line(alloc, "loads", &touch.loads)?)?;
-    all.push(spans_line(alloc, "stores", &touch.stores)?)?;
-    Ok(all)
+/// Adds what a beat reads, writes, loads and stores, a line each.
+pub fn add_touch(touch: &Touch, lines: &mut String) -> Result<(), AllocError> {
+    add_places("reads", &touch.reads, lines)?;
+    add_places("writes", &touch.writes, lines)?;
+    add_spans("loads", &touch.loads, lines)?;
+    add_spans("stores", &touch.stores, lines)
 }
