@@ -6,7 +6,7 @@ use crate::words::{Stopped, alignment, length, read_number};
 use anyhow::{Result, bail, ensure};
 use hm_base::{Image, Stop};
 use hm_mem::{Access, Actor, Mem};
-use std::alloc::Global;
+use std::alloc::{AllocError, Global};
 use std::str::SplitWhitespace;
 
 /// A memory of a blank image: where handlers may store from, up to where, and the floor.
@@ -34,10 +34,10 @@ pub fn actor(words: &mut SplitWhitespace<'_>) -> Result<Actor> {
 }
 
 /// How an access ended that gives nothing.
-fn ended(alloc: Global, end: Result<(), Stop>) -> Result<String> {
+fn ended(alloc: Global, end: Result<(), Stop>) -> Result<String, AllocError> {
     match end {
-        Ok(()) => Ok(String::from_str(alloc, "done")?),
-        Err(stop) => Ok(format!(in alloc; "{}", Stopped(stop))?),
+        Ok(()) => String::from_str(alloc, "done"),
+        Err(stop) => Stopped(stop).to_string(alloc),
     }
 }
 
@@ -51,7 +51,7 @@ pub fn checked(
     let how = alignment(words)?;
     let addr = read_number(words)?;
     let len = length(words)?;
-    ended(alloc, mem.check(addr, len, how, write))
+    Ok(ended(alloc, mem.check(addr, len, how, write))?)
 }
 
 /// What a load gives: the address and how many bytes.
@@ -60,7 +60,7 @@ pub fn loaded(alloc: Global, words: &mut SplitWhitespace<'_>, mem: &mut Mem) -> 
     let len = length(words)?;
     match mem.load(addr, len, Access::Scalar) {
         Ok(value) => Ok(format!(in alloc; "{value:08x}")?),
-        Err(stop) => Ok(format!(in alloc; "{}", Stopped(stop))?),
+        Err(stop) => Ok(Stopped(stop).to_string(alloc)?),
     }
 }
 
@@ -69,5 +69,5 @@ pub fn stored(alloc: Global, words: &mut SplitWhitespace<'_>, mem: &mut Mem) -> 
     let addr = read_number(words)?;
     let len = length(words)?;
     let value = read_number(words)?;
-    ended(alloc, mem.store(addr, len, value, Access::Scalar))
+    Ok(ended(alloc, mem.store(addr, len, value, Access::Scalar))?)
 }

@@ -4,12 +4,12 @@ use crate::accesses::{actor, blank, checked, loaded, stored};
 use crate::runs::{bytes_text, has_line, schedule_text, shown, started, taint_text};
 use crate::tapes::taped;
 use crate::vectors::{overlapped, refused, touched};
-use crate::words::{lines_of, read_number};
+use crate::words::{add_lines, read_number};
 use anyhow::{Context, Result, bail};
 use hm_isa::{Below, Instr, S18, Scalar, width};
 use hm_machine::Machine;
 use hm_mem::Mem;
-use std::alloc::Global;
+use std::alloc::{AllocError, Global};
 use std::str::SplitWhitespace;
 
 /// What lines set up, for the lines that follow.
@@ -38,23 +38,14 @@ fn yes_or_no(alloc: Global, is: bool) -> Result<String> {
 fn breakpoint_width(alloc: Global, words: &mut SplitWhitespace<'_>) -> Result<String> {
     let i = Below::of(read_number(words)?).context("no number of a breakpoint")?;
     let width = width(&Instr::Scalar(Scalar::S18(S18 { i })));
-    Ok(format!(in alloc; "{width}")?)
+    Ok(width.to_string(alloc)?)
 }
 
 /// A number that is below 8, and `none` for others.
 fn below_eight(alloc: Global, words: &mut SplitWhitespace<'_>) -> Result<String> {
     match Below::<8>::of(read_number(words)?) {
-        Some(below) => Ok(format!(in alloc; "{}", below.get())?),
+        Some(below) => Ok(below.get().to_string(alloc)?),
         None => Ok(String::from_str(alloc, "none")?),
-    }
-}
-
-/// What a number answers.
-fn number_answer(alloc: Global, ask: &str, words: &mut SplitWhitespace<'_>) -> Result<String> {
-    match ask {
-        "breakpoint_width" => breakpoint_width(alloc, words),
-        "below_8" => below_eight(alloc, words),
-        _ => bail!("no question"),
     }
 }
 
@@ -74,18 +65,23 @@ fn instruction_answer(
     }
 }
 
-/// What a memory answers.
-fn memory_answer(
-    alloc: Global,
-    ask: &str,
-    words: &mut SplitWhitespace<'_>,
-    memory: &mut Mem,
-) -> Result<String> {
+/// How a tick of a machine or its run ends, or how it has ended.
+fn end_text(alloc: Global, ask: &str, machine: &mut Machine) -> Result<String, AllocError> {
     match ask {
-        "check_load" => checked(alloc, words, memory, false),
-        "check_store" => checked(alloc, words, memory, true),
-        "load" => loaded(alloc, words, memory),
-        _ => stored(alloc, words, memory),
+        "tick" => format!(in alloc; "{:?}", machine.tick()),
+        "end" => format!(in alloc; "{:?}", machine.run()),
+        _ => format!(in alloc; "{:?}", machine.outcome()),
+    }
+}
+
+/// A number that a machine tells of its run.
+fn number_of(ask: &str, machine: &Machine) -> Option<u64> {
+    match ask {
+        "ticks" => Some(machine.ticks() as u64),
+        "retired" => Some(machine.retired()),
+        "older_steps" => Some(machine.older_steps()),
+        "output" => Some(machine.output().len() as u64),
+        _ => None,
     }
 }
 
@@ -99,14 +95,26 @@ fn machine_answer(
     match ask {
         "bytes" => bytes_text(alloc, words, machine),
         "tainted" => taint_text(alloc, words, machine),
-        "tick" => Ok(format!(in alloc; "{:?}", machine.tick())?),
-        "end" => Ok(format!(in alloc; "{:?}", machine.run())?),
-        "outcome" => Ok(format!(in alloc; "{:?}", machine.outcome())?),
-        "ticks" => Ok(format!(in alloc; "{}", machine.ticks())?),
-        "retired" => Ok(format!(in alloc; "{}", machine.retired())?),
-        "older_steps" => Ok(format!(in alloc; "{}", machine.older_steps())?),
-        "output" => Ok(format!(in alloc; "{}", machine.output().len())?),
-        _ => Ok(format!(in alloc; "{}", machine.memory_file(alloc)?.len())?),
+        "tick" | "end" | "outcome" => Ok(end_text(alloc, ask, machine)?),
+        "memory_file" => Ok(machine.memory_file(alloc)?.len().to_string(alloc)?),
+        _ => {
+            let number = number_of(ask, machine).context("no question")?;
+            Ok(number.to_string(alloc)?)
+        }
+    }
+}
+
+/// Takes the lines of a text in place of those before.
+fn take_lines(text: &str, lines: &mut Vec<u8>) -> Result<()> {
+    lines.clear();
+    add_lines(text, lines)?;
+    Ok(())
+}
+
+/// Does so many ticks.
+fn do_ticks(machine: &mut Machine, count: u32) {
+    for _ in 0..count {
+        let _turn = machine.tick();
     }
 }
 
@@ -125,8 +133,9 @@ impl Bench {
     }
 
     /// From now on is the run of this name. What is set up stays.
-    pub fn begin(&mut self, alloc: Global, name: &str) -> Result<()> {
-        self.run = String::from_str(alloc, name)?;
+    pub fn begin(&mut self, name: &str) -> Result<()> {
+        self.run.clear();
+        self.run.push_str(name)?;
         Ok(())
     }
 
@@ -136,26 +145,18 @@ impl Bench {
     }
 
     /// The first lines of a schedule, and these.
-    fn schedule(&self, alloc: Global, ticks: &str) -> Result<Vec<u8>> {
-        let mut text = Vec::new(alloc);
-        text.extend_from_slice(&self.head)?;
+    fn schedule(&self, alloc: Global, ticks: &str) -> Result<Vec<u8>, AllocError> {
+        let mut text = self.head.as_slice().to_vec(alloc)?;
         if !ticks.is_empty() {
-            text.extend_from_slice(&lines_of(alloc, ticks)?)?;
+            add_lines(ticks, &mut text)?;
         }
         Ok(text)
     }
 
-    /// Sets up a machine, or what one is made of.
-    fn set_up(&mut self, alloc: Global, deed: &str, text: &str) -> Result<()> {
-        match deed {
-            "source" => self.source = lines_of(alloc, text)?,
-            "asm" => self.source.extend_from_slice(&lines_of(alloc, text)?)?,
-            "head" => self.head = lines_of(alloc, text)?,
-            _ => {
-                self.schedule = self.schedule(alloc, text)?;
-                self.machine = Some(started(alloc, &self.source, &self.schedule)?);
-            }
-        }
+    /// Sets up a machine, which runs under these lines.
+    fn start(&mut self, alloc: Global, ticks: &str) -> Result<()> {
+        self.schedule = self.schedule(alloc, ticks)?;
+        self.machine = Some(started(alloc, &self.source, &self.schedule)?);
         Ok(())
     }
 
@@ -166,13 +167,15 @@ impl Bench {
             "go" => {
                 let _outcome = machine.run();
             }
-            "step" => {
-                for _ in 0..text.parse::<u32>().context("no number of ticks")? {
-                    let _turn = machine.tick();
-                }
-            }
+            "step" => do_ticks(machine, text.parse::<u32>().context("no number of ticks")?),
             _ => self.kept = shown(alloc, machine)?,
         }
+        Ok(())
+    }
+
+    /// Sets up a memory.
+    fn lay_out(&mut self, alloc: Global, text: &str) -> Result<()> {
+        self.memory = Some(blank(alloc, &mut text.split_whitespace())?);
         Ok(())
     }
 
@@ -191,19 +194,19 @@ impl Bench {
     pub fn obey(&mut self, alloc: Global, line: &str) -> Result<()> {
         let (deed, text) = line.split_once(' ').unwrap_or((line, ""));
         match deed {
-            "source" | "asm" | "head" | "start" => self.set_up(alloc, deed, text),
+            "source" => take_lines(text, &mut self.source),
+            "asm" => Ok(add_lines(text, &mut self.source)?),
+            "head" => take_lines(text, &mut self.head),
+            "start" => self.start(alloc, text),
             "go" | "step" | "keep" => self.go_on(alloc, deed, text),
+            "blank" => self.lay_out(alloc, text),
             "actor" | "csr" => self.set_memory(deed, text),
-            "blank" => {
-                self.memory = Some(blank(alloc, &mut text.split_whitespace())?);
-                Ok(())
-            }
             _ => bail!("nothing to do"),
         }
     }
 
-    /// What the report of the machine, or all that it shows, answers.
-    fn report_answer(&mut self, alloc: Global, ask: &str, text: &str) -> Result<String> {
+    /// What the machine answers, its report, or all that it shows.
+    fn run_answer(&mut self, alloc: Global, ask: &str, text: &str) -> Result<String> {
         let machine = self.machine.as_mut().context("no machine")?;
         match ask {
             "shows" => yes_or_no(alloc, has_line(&machine.report(alloc)?, text)),
@@ -212,32 +215,31 @@ impl Bench {
         }
     }
 
+    /// What the memory answers.
+    fn memory_answer(&mut self, alloc: Global, ask: &str, text: &str) -> Result<String> {
+        let memory = self.memory.as_mut().context("no memory")?;
+        let words = &mut text.split_whitespace();
+        match ask {
+            "check_load" => checked(alloc, words, memory, false),
+            "check_store" => checked(alloc, words, memory, true),
+            "load" => loaded(alloc, words, memory),
+            _ => stored(alloc, words, memory),
+        }
+    }
+
     /// What a question is answered.
     pub fn answer(&mut self, alloc: Global, question: &str) -> Result<String> {
         let (ask, text) = question.split_once(' ').unwrap_or((question, ""));
         match ask {
-            "shows"
-            | "alike"
-            | "bytes"
-            | "tainted"
-            | "tick"
-            | "end"
-            | "outcome"
-            | "ticks"
-            | "retired"
-            | "older_steps"
-            | "output"
-            | "memory_file" => { self.report_answer(alloc, ask, text) }
             "touch" | "refused" | "overlap" => {
                 instruction_answer(alloc, ask, text, self.memory.as_ref())
             }
-            "check_load" | "check_store" | "load" | "store" => {
-                let memory = self.memory.as_mut().context("no memory")?;
-                memory_answer(alloc, ask, &mut text.split_whitespace(), memory)
-            }
+            "check_load" | "check_store" | "load" | "store" => self.memory_answer(alloc, ask, text),
             "schedule" => schedule_text(alloc, &self.schedule(alloc, text)?),
             "tape" => taped(alloc, text, &self.source, &self.schedule),
-            _ => number_answer(alloc, ask, &mut text.split_whitespace()),
+            "breakpoint_width" => breakpoint_width(alloc, &mut text.split_whitespace()),
+            "below_8" => below_eight(alloc, &mut text.split_whitespace()),
+            _ => self.run_answer(alloc, ask, text),
         }
     }
 }

@@ -48,12 +48,30 @@ fn read_line(line: &str) -> Said<'_> {
 }
 
 /// One more.
-fn count(number: &mut u32) -> Result<()> {
-    *number = number.checked_add(1).context("too many")?;
+fn count(number: &mut u32) {
+    *number = number.saturating_add(1);
+}
+
+/// Asks a question, and writes its answer where that is another.
+fn try_question<W: Write>(
+    out: &mut W,
+    alloc: Global,
+    bench: &mut Bench,
+    tally: &mut Tally,
+    question: &str,
+    wanted: &str,
+) -> Result<()> {
+    let answer = bench.answer(alloc, question)?;
+    count(&mut tally.answers);
+    if answer.as_str() != wanted {
+        count(&mut tally.differ);
+        let run = bench.run();
+        writeln!(out, "{run}: {question} = {answer}, told {wanted}")?;
+    }
     Ok(())
 }
 
-/// Does what a line says, and writes where an answer is another.
+/// Does what a line says.
 fn try_line<W: Write>(
     out: &mut W,
     alloc: Global,
@@ -62,23 +80,16 @@ fn try_line<W: Write>(
     line: &str,
 ) -> Result<()> {
     match read_line(line) {
-        Said::Nothing => {}
+        Said::Nothing => Ok(()),
         Said::Run(name) => {
-            count(&mut tally.runs)?;
-            bench.begin(alloc, name)?;
+            count(&mut tally.runs);
+            bench.begin(name)
         }
-        Said::Deed(deed) => bench.obey(alloc, deed)?,
+        Said::Deed(deed) => bench.obey(alloc, deed),
         Said::Question(question, wanted) => {
-            let answer = bench.answer(alloc, question)?;
-            count(&mut tally.answers)?;
-            if answer.as_str() != wanted {
-                count(&mut tally.differ)?;
-                let run = bench.run();
-                writeln!(out, "{run}: {question} = {answer}, told {wanted}")?;
-            }
+            try_question(out, alloc, bench, tally, question, wanted)
         }
     }
-    Ok(())
 }
 
 /// Does what the lines of a file say.

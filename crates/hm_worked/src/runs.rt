@@ -1,12 +1,13 @@
 //! Machines, from their sources and schedules to what they show.
 
-use crate::words::read_number;
+use crate::words::addresses;
 use anyhow::{Context, Result, bail, ensure};
 use hm_asm::assemble;
 use hm_base::Image;
 use hm_machine::Machine;
-use hm_sched::{parse, print};
+use hm_sched::{Schedule, parse, print};
 use std::alloc::Global;
+use std::fmt::Write;
 use std::str::SplitWhitespace;
 
 /// The most bytes that a source may have.
@@ -41,9 +42,9 @@ pub fn bytes_text(
     machine: &Machine,
 ) -> Result<String> {
     let mut text = String::new(alloc);
-    for addr in read_number(words)?..read_number(words)? {
+    for addr in addresses(words)? {
         match machine.byte(addr) {
-            Some(byte) => text.push_str(&format!(in alloc; "{byte:02x}")?)?,
+            Some(byte) => write!(text, "{byte:02x}")?,
             None => text.push_str("--")?,
         }
     }
@@ -56,9 +57,8 @@ pub fn taint_text(
     words: &mut SplitWhitespace<'_>,
     machine: &Machine,
 ) -> Result<String> {
-    let addresses = read_number(words)?..read_number(words)?;
-    let count = addresses.filter(|addr| machine.tainted(*addr)).count();
-    Ok(format!(in alloc; "{count}")?)
+    let tainted = addresses(words)?.filter(|addr| machine.tainted(*addr));
+    Ok(tainted.count().to_string(alloc)?)
 }
 
 /// The report, and the first 48 bytes of SRAM.
@@ -70,17 +70,21 @@ pub fn shown(alloc: Global, machine: &Machine) -> Result<Vec<u8>> {
     Ok(text)
 }
 
-/// A schedule as it is printed, with `;` for the ends of its lines, and how many ticks and lines of ticks it has; or why it is refused.
-pub fn schedule_text(alloc: Global, schedule: &[u8]) -> Result<String> {
-    let schedule = match parse(alloc, schedule) {
-        Ok(schedule) => schedule,
-        Err(e) => return Ok(format!(in alloc; "{e:?}")?),
-    };
+/// A schedule as it is printed, with `;` for the ends of its lines, and how many ticks and lines of ticks it has.
+fn printed(alloc: Global, schedule: &Schedule) -> Result<String> {
     let mut text = String::new(alloc);
-    for byte in print(alloc, &schedule)? {
+    for byte in print(alloc, schedule)? {
         text.push(if byte == b'\n' { ';' } else { byte as char })?;
     }
     let (ticks, lines) = (schedule.ticks(), schedule.lines());
-    text.push_str(&format!(in alloc; " ticks {ticks} lines {lines}")?)?;
+    write!(text, " ticks {ticks} lines {lines}")?;
     Ok(text)
+}
+
+/// A schedule as it is printed, or why it is refused.
+pub fn schedule_text(alloc: Global, schedule: &[u8]) -> Result<String> {
+    match parse(alloc, schedule) {
+        Ok(schedule) => printed(alloc, &schedule),
+        Err(e) => Ok(format!(in alloc; "{e:?}")?),
+    }
 }

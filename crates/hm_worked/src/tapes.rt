@@ -61,6 +61,13 @@ fn shown_at(alloc: Global, tape: &mut Tape, tick: u32) -> Result<Vec<u8>> {
     }
 }
 
+/// Whether a tape shows at a tick what a machine does that runs once.
+fn is_alike(alloc: Global, tape: &mut Tape, film: &[Vec<u8>], tick: usize) -> Result<bool> {
+    let wanted = film.get(tick).context("no tick")?;
+    let tick = u32::try_from(tick).context("too many ticks")?;
+    Ok(shown_at(alloc, tape, tick)? == *wanted)
+}
+
 /// How often a tape shows what a machine does that runs once, if as many ticks as it has are asked for in an order.
 fn count_alike(alloc: Global, tape: &mut Tape, film: &[Vec<u8>], order: Order) -> Result<u32> {
     let mut alike = 0_u32;
@@ -68,11 +75,7 @@ fn count_alike(alloc: Global, tape: &mut Tape, film: &[Vec<u8>], order: Order) -
     for k in 0..film.len() {
         drawn = draw(drawn);
         let tick = asked(order, k, film.len(), drawn);
-        let wanted = film.get(tick).context("no tick")?;
-        let tick = u32::try_from(tick).context("too many ticks")?;
-        if shown_at(alloc, tape, tick)? == *wanted {
-            alike = alike.checked_add(1).context("too many ticks")?;
-        }
+        alike = alike.saturating_add(is_alike(alloc, tape, film, tick)? as u32);
     }
     Ok(alike)
 }
@@ -85,14 +88,19 @@ fn behind(tape: &mut Tape) -> &'static str {
     }
 }
 
-/// How often a tape of a run shows what a machine does that runs once, of how many ticks; the last, and what is told of the one behind it.
+/// How often a tape shows what a machine does that runs once, of how many ticks; the last, and what is told of the one behind it.
+fn compared(alloc: Global, tape: &mut Tape, film: &[Vec<u8>], order: Order) -> Result<String> {
+    let alike = count_alike(alloc, tape, film, order)?;
+    let (count, last, behind) = (film.len(), tape.last(), behind(tape));
+    Ok(format!(in alloc; "{alike} of {count} alike, last {last}, then {behind}")?)
+}
+
+/// What comes of a run on a tape, whose ticks are asked for in an order.
 pub fn taped(alloc: Global, order: &str, source: &[u8], schedule: &[u8]) -> Result<String> {
     let order = order_of(order)?;
     let image = image_of(alloc, source)?;
     let mut machine = Machine::load(alloc, &image, parse(alloc, schedule)?)?;
     let film = film_of(alloc, &mut machine)?;
     let mut tape = Tape::new(alloc, &image, parse(alloc, schedule)?)?;
-    let alike = count_alike(alloc, &mut tape, &film, order)?;
-    let (count, last, behind) = (film.len(), tape.last(), behind(&mut tape));
-    Ok(format!(in alloc; "{alike} of {count} alike, last {last}, then {behind}")?)
+    compared(alloc, &mut tape, &film, order)
 }

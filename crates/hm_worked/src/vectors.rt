@@ -1,16 +1,19 @@
 //! What a vector instruction answers, by its text.
 
+ghost use Rattle.std.specs.Prelude.{IsTrue};
+
 use crate::words::{Broken, Named, Stopped, read_number};
 use anyhow::{Context, Result, bail, ensure};
 use hm_base::{Places, Stop};
-use hm_beat::BeatWise;
+use hm_beat::{BeatWise, Touch};
 use hm_exec::{Any, any, refuse};
 use hm_isa::{Instr, Vector};
 use hm_mem::Mem;
 use hm_regs::Regs;
 use hm_text::{Labels, parse_instr};
 use hm_window::{Window, lawful};
-use std::alloc::Global;
+use std::alloc::{AllocError, Global};
+use std::fmt::Write;
 use std::str::SplitWhitespace;
 
 /// An instruction that is a vector one.
@@ -37,31 +40,52 @@ fn row(alloc: Global, text: &str) -> Result<Option<Any>> {
     }
 }
 
+/// The registers of a thread that has a context, all else 0.
+fn with_context() -> Regs
+    ensures { IsTrue result.fpca }
+{
+    let mut regs = Regs::start(0, 8);
+    regs.fpca = true;
+    regs
+}
+
 /// Adds the names of places.
-fn push_places(alloc: Global, text: &mut String, places: &Places) -> Result<()> {
+fn add_places(text: &mut String, places: &Places) -> Result<(), AllocError> {
     for k in 0..places.len() {
-        text.push_str(&format!(in alloc; " {}", Named(places.at(k)))?)?;
+        write!(text, " {}", Named(places.at(k)))?;
     }
     Ok(())
+}
+
+/// The names of the places that a beat reads and writes.
+fn touch_text(alloc: Global, touch: &Touch) -> Result<String, AllocError> {
+    let mut text = String::from_str(alloc, "reads")?;
+    add_places(&mut text, &touch.reads)?;
+    text.push_str(" writes")?;
+    add_places(&mut text, &touch.writes)?;
+    Ok(text)
 }
 
 /// The places that a beat of an instruction reads and writes: VPR, FPSCR and beat.
 pub fn touched(alloc: Global, text: &str, words: &mut SplitWhitespace<'_>) -> Result<String> {
     let row = row(alloc, text)?.context("no vector instruction")?;
-    let vpr = read_number(words)?;
-    let fpscr = read_number(words)?;
+    let mut regs = with_context();
+    regs.vpr = read_number(words)?;
+    regs.fpscr = read_number(words)?;
     let beat = read_number(words)?;
     ensure!(beat < 4, "no beat");
-    let mut regs = Regs::start(0, 8);
-    regs.fpca = true;
-    regs.vpr = vpr;
-    regs.fpscr = fpscr;
-    let touch = row.touch(beat as u8, &regs);
-    let mut text = String::from_str(alloc, "reads")?;
-    push_places(alloc, &mut text, &touch.reads)?;
-    text.push_str(" writes")?;
-    push_places(alloc, &mut text, &touch.writes)?;
-    Ok(text)
+    Ok(touch_text(alloc, &row.touch(beat as u8, &regs))?)
+}
+
+/// How many beats are done of two instructions.
+fn position(words: &mut SplitWhitespace<'_>) -> Result<Window> {
+    let a = read_number(words)?;
+    let b = read_number(words)?;
+    ensure!(a < 4 && b < 4, "no position");
+    Ok(Window {
+        a: a as u8,
+        b: b as u8,
+    })
 }
 
 /// Whether the next beat of the younger of two instructions, with `|` between them, may be done: the beats done of each, r0 and r1.
@@ -71,37 +95,27 @@ pub fn overlapped(
     words: &mut SplitWhitespace<'_>,
     mem: &Mem,
 ) -> Result<String> {
+    let at = position(words)?;
+    let mut regs = with_context();
+    regs.r[0] = read_number(words)?;
+    regs.r[1] = read_number(words)?;
     let (older, younger) = texts.split_once(" | ").context("no two instructions")?;
     let older = row(alloc, older)?;
     let younger = row(alloc, younger)?;
-    let a = read_number(words)?;
-    let b = read_number(words)?;
-    let r0 = read_number(words)?;
-    let r1 = read_number(words)?;
-    ensure!(a < 4 && b < 4, "no position");
-    let at = Window {
-        a: a as u8,
-        b: b as u8,
-    };
-    let mut regs = Regs::start(0, 8);
-    regs.fpca = true;
-    regs.r[0] = r0;
-    regs.r[1] = r1;
     match lawful(at, older.as_ref(), younger.as_ref(), &regs, mem) {
         Ok(()) => Ok(String::from_str(alloc, "lawful")?),
-        Err(rule) => Ok(format!(in alloc; "{}", Broken(rule))?),
+        Err(rule) => Ok(Broken(rule).to_string(alloc)?),
     }
 }
 
 /// Whether an instruction is refused before its first beat: FPSCR and lr.
 pub fn refused(alloc: Global, text: &str, words: &mut SplitWhitespace<'_>) -> Result<String> {
     let vector = vector(alloc, text)?.context("no vector instruction")?;
-    let mut regs = Regs::start(0, 8);
-    regs.fpca = true;
+    let mut regs = with_context();
     regs.fpscr = read_number(words)?;
     regs.lr = read_number(words)?;
     match refuse(&vector, &regs) {
-        Some(fault) => Ok(format!(in alloc; "{}", Stopped(Stop::Fault(fault)))?),
+        Some(fault) => Ok(Stopped(Stop::Fault(fault)).to_string(alloc)?),
         None => Ok(String::from_str(alloc, "none")?),
     }
 }

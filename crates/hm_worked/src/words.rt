@@ -7,8 +7,9 @@ use anyhow::{Context, Result, bail};
 use hm_base::{Place, Stop};
 use hm_mem::Access;
 use hm_window::Rule;
-use std::alloc::Global;
+use std::alloc::AllocError;
 use std::fmt;
+use std::ops::Range;
 use std::str::SplitWhitespace;
 
 /// The next word, a number in hexadecimal.
@@ -29,6 +30,11 @@ pub fn length(words: &mut SplitWhitespace<'_>) -> Result<u32>
     }
 }
 
+/// The next two words, an address and the one behind the last.
+pub fn addresses(words: &mut SplitWhitespace<'_>) -> Result<Range<u32>> {
+    Ok(read_number(words)?..read_number(words)?)
+}
+
 /// The next word, how an access is aligned.
 pub fn alignment(words: &mut SplitWhitespace<'_>) -> Result<Access> {
     match words.next() {
@@ -39,14 +45,13 @@ pub fn alignment(words: &mut SplitWhitespace<'_>) -> Result<Access> {
     }
 }
 
-/// The bytes of a text of several lines, which has `;` between them.
-pub fn lines_of(alloc: Global, text: &str) -> Result<Vec<u8>> {
-    let mut bytes = Vec::new(alloc);
+/// Adds the lines of a text, which has `;` between them.
+pub fn add_lines(text: &str, bytes: &mut Vec<u8>) -> Result<(), AllocError> {
     for byte in text.as_bytes() {
         bytes.push(if *byte == b';' { b'\n' } else { *byte })?;
     }
     bytes.push(b'\n')?;
-    Ok(bytes)
+    Ok(())
 }
 
 /// A place, by its name.
@@ -56,15 +61,15 @@ pub struct Named(pub Place);
 impl fmt::Display for Named {
     fn fmt<W: fmt::Write>(&self, f: &mut fmt::Formatter<W>) -> fmt::Result {
         match self.0 {
-            Place::R(14) => write!(f, "lr"),
+            Place::R(14) => f.write_str("lr"),
             Place::R(n) => write!(f, "r{n}"),
             Place::QWord(k) => write!(f, "q{}.{}", k / 4, k % 4),
             Place::P0(b) => write!(f, "p0.{b}"),
-            Place::Mask01 => write!(f, "mask01"),
-            Place::Mask23 => write!(f, "mask23"),
-            Place::Carry => write!(f, "carry"),
-            Place::Ltp => write!(f, "ltpsize"),
-            Place::Sticky => write!(f, "qc"),
+            Place::Mask01 => f.write_str("mask01"),
+            Place::Mask23 => f.write_str("mask23"),
+            Place::Carry => f.write_str("carry"),
+            Place::Ltp => f.write_str("ltpsize"),
+            Place::Sticky => f.write_str("qc"),
         }
     }
 }
