@@ -11,20 +11,31 @@ use std::str::SplitWhitespace;
 
 /// What is asked of a text and needs no more.
 fn of_text(alloc: Global, ask: &str, input: &[u8]) -> Result<String> {
-    match ask {
-        "number" => Ok(format!(in alloc; "{:?}", read_number(input))?),
+    let answer = match ask {
+        "number" => format!(in alloc; "{:?}", read_number(input)),
         "word" => numbers::word(alloc, input),
+        "name" => is_label_name(input).to_string(alloc),
+        "form" => format!(in alloc; "{:?}", check_form(Form::Instruction, input)),
+        "last" => last_column(input).to_string(alloc),
+        "item" => lines::item(alloc, input),
+        "front" => lines::front(alloc, input),
+        _ => return of_line(alloc, ask, input),
+    };
+    Ok(answer?)
+}
+
+/// What is asked of tokens.
+fn of_tokens(alloc: Global, ask: &str, input: &[u8]) -> Result<String> {
+    let answer = match ask {
         "tokens" => tokens::tokens(alloc, input),
         "single" => tokens::single(alloc, input),
         "register" => tokens::register(alloc, input),
         "vector" => tokens::vector(alloc, input),
         "condition" => tokens::condition(alloc, input),
         "compare" => tokens::compared(alloc, input),
-        "name" => Ok(is_label_name(input).to_string(alloc)?),
-        "form" => Ok(format!(in alloc; "{:?}", check_form(Form::Instruction, input))?),
-        "last" => Ok(last_column(input).to_string(alloc)?),
-        _ => of_line(alloc, ask, input),
-    }
+        _ => return of_text(alloc, ask, input),
+    };
+    Ok(answer?)
 }
 
 /// What is asked of a line or a source.
@@ -32,8 +43,6 @@ fn of_line(alloc: Global, ask: &str, input: &[u8]) -> Result<String> {
     match ask {
         "labels" => lines::labels(alloc, input),
         "line" => lines::line(alloc, input),
-        "item" => lines::item(alloc, input),
-        "front" => lines::front(alloc, input),
         "first" => lines::first(alloc, input),
         "source" => assembly::assembled(alloc, input),
         "refusal" => assembly::refusal(alloc, input),
@@ -63,7 +72,7 @@ fn with_words(
         "schedule" => schedules::read(alloc, &made(alloc, base, words, input)?),
         "print" => schedules::printed(alloc, &made(alloc, base, words, input)?),
         "add" => schedules::added(alloc, base, input),
-        _ => of_text(alloc, ask, input),
+        _ => of_tokens(alloc, ask, input),
     }
 }
 

@@ -16,13 +16,14 @@ const LONGEST: usize = 16_777_216;
 /// The image of a source, or what it is refused for.
 pub fn assembled(alloc: Global, input: &[u8]) -> Result<String> {
     ensure!(input.len() <= LONGEST, "the source is too long");
-    match assemble(alloc, input) {
+    let text = match assemble(alloc, input) {
         Ok(image) => segments(alloc, &image),
-        Err(AsmErr::Line { line, column, kind }) => {
-            Ok(format!(in alloc; "{kind:?} at {line}:{column}")?)
-        }
+        Err(AsmErr::Line { line, column, kind }) => format!(in alloc;
+            "{kind:?} at {line}:{column}"
+        ),
         Err(AsmErr::OutOfMemory) => bail!("out of memory"),
-    }
+    };
+    Ok(text?)
 }
 
 /// The listing of an image between two addresses.
@@ -41,14 +42,15 @@ pub fn refusal(alloc: Global, input: &[u8]) -> Result<String> {
     let line = 1;
     let column = 2;
     let kind = AsmKind::Row;
-    match input {
-        b"source" => Ok(AsmErr::Line { line, column, kind }.to_string(alloc)?),
-        b"memory" => Ok(AsmErr::from(OutOfMemory).to_string(alloc)?),
-        b"ticks" => Ok(SchedErr::TooManyTicks { line: 5 }.to_string(alloc)?),
+    let text = match input {
+        b"source" => AsmErr::Line { line, column, kind }.to_string(alloc),
+        b"memory" => AsmErr::from(OutOfMemory).to_string(alloc),
+        b"ticks" => SchedErr::TooManyTicks { line: 5 }.to_string(alloc),
         b"schedule" => {
             let kind = LineKind::Steps;
-            Ok(SchedErr::Line { line: 5, kind }.to_string(alloc)?)
+            SchedErr::Line { line: 5, kind }.to_string(alloc)
         }
         _ => bail!("no such refusal"),
-    }
+    };
+    Ok(text?)
 }

@@ -1,6 +1,6 @@
 //! A line of a file of cases.
 
-use anyhow::{Context, Result, bail};
+use anyhow::{Context, Result};
 use std::alloc::Global;
 
 /// A line: words, bytes in quotes, and behind them what the answer is told to be.
@@ -14,27 +14,26 @@ pub struct Case<'a> {
     pub told: &'a str,
 }
 
-/// The byte of an escape of one letter.
-fn escaped(letter: &str) -> Result<u8> {
+/// The byte that is escaped behind a backslash, and the text behind it.
+fn escape(text: &str) -> Option<(u8, &str)> {
+    let (letter, rest) = text.split_at_checked(1)?;
     match letter {
-        "0" => Ok(0),
-        "n" => Ok(b'\n'),
-        "r" => Ok(b'\r'),
-        "t" => Ok(b'\t'),
-        _ => bail!("no such escape"),
+        "0" => Some((0, rest)),
+        "n" => Some((b'\n', rest)),
+        "r" => Some((b'\r', rest)),
+        "t" => Some((b'\t', rest)),
+        "x" => {
+            let (digits, rest) = rest.split_at_checked(2)?;
+            Some((u8::from_str_radix(digits, 16).ok()?, rest))
+        }
+        _ => None,
     }
 }
 
-/// Adds what stands behind a backslash: one byte that is escaped, and the text behind it.
+/// Adds what stands behind a backslash.
 fn add_escaped(bytes: &mut Vec<u8>, text: &str) -> Result<()> {
-    let (letter, rest) = text.split_at_checked(1).context("an escape is wanted")?;
-    if letter != "x" {
-        bytes.push(escaped(letter)?)?;
-        bytes.extend_from_slice(rest.as_bytes())?;
-        return Ok(());
-    }
-    let (digits, rest) = rest.split_at_checked(2).context("two digits are wanted")?;
-    bytes.push(u8::from_str_radix(digits, 16).context("no digits")?)?;
+    let (byte, rest) = escape(text).context("no such escape")?;
+    bytes.push(byte)?;
     bytes.extend_from_slice(rest.as_bytes())?;
     Ok(())
 }

@@ -4,7 +4,7 @@ use crate::input::image_of;
 use anyhow::{Result, ensure};
 use hm_base::Image;
 use hm_elf::{read_image, write_image};
-use std::alloc::Global;
+use std::alloc::{AllocError, Global};
 use std::fmt::Write;
 
 /// The most bytes that a file may have here.
@@ -13,22 +13,33 @@ const LONGEST: usize = 16_777_216;
 /// The most bytes of a segment that are shown.
 const MOST: usize = 64;
 
-/// The segments of an image, each as its address and its bytes; where these are many, how many.
-pub fn segments(alloc: Global, image: &Image) -> Result<String> {
+/// Adds a segment: its address and its bytes, or how many these are.
+fn add_segment(
+    alloc: Global,
+    out: &mut String,
+    address: u32,
+    bytes: &[u8],
+) -> Result<(), AllocError> {
+    let count = bytes.len();
+    if count > MOST {
+        return write!(out, "{address:x} ({count} bytes)");
+    }
+    let digits = hex::encode(alloc, bytes)?;
+    write!(out, "{address:x} {digits}")
+}
+
+/// The segments of an image, with commas between them.
+pub fn segments(alloc: Global, image: &Image) -> Result<String, AllocError> {
+    if image.len() == 0 {
+        return String::from_str(alloc, "empty");
+    }
     let mut out = String::new(alloc);
     for k in 0..image.len() {
-        let (address, bytes) = image.segment(k);
-        let comma = if k == 0 { "" } else { "," };
-        write!(out, "{comma}{address:x} ")?;
-        let count = bytes.len();
-        if count <= MOST {
-            out.push_str(&hex::encode(alloc, bytes)?)?;
-        } else {
-            write!(out, "({count} bytes)")?;
+        if k > 0 {
+            out.push(',')?;
         }
-    }
-    if out.is_empty() {
-        write!(out, "empty")?;
+        let (address, bytes) = image.segment(k);
+        add_segment(alloc, &mut out, address, bytes)?;
     }
     Ok(out)
 }
@@ -36,18 +47,20 @@ pub fn segments(alloc: Global, image: &Image) -> Result<String> {
 /// The image of a file, or what it is refused for.
 pub fn read(alloc: Global, file: &[u8]) -> Result<String> {
     ensure!(file.len() <= LONGEST, "the file is too long");
-    match read_image(alloc, file) {
+    let text = match read_image(alloc, file) {
         Ok(image) => segments(alloc, &image),
-        Err(e) => Ok(format!(in alloc; "{e:?}")?),
-    }
+        Err(e) => format!(in alloc; "{e:?}"),
+    };
+    Ok(text?)
 }
 
 /// The ELF file of an image, or what it is refused for.
 pub fn written(alloc: Global, input: &[u8]) -> Result<String> {
-    match write_image(alloc, &image_of(alloc, input)?) {
-        Ok(file) => Ok(hex::encode(alloc, &file)?),
-        Err(e) => Ok(format!(in alloc; "{e:?}")?),
-    }
+    let text = match write_image(alloc, &image_of(alloc, input)?) {
+        Ok(file) => hex::encode(alloc, &file),
+        Err(e) => format!(in alloc; "{e:?}"),
+    };
+    Ok(text?)
 }
 
 /// How many bytes the ELF file of an image has, and the image that is read of it.

@@ -2,7 +2,7 @@
 
 use anyhow::{Context, Result, bail};
 use hm_base::Image;
-use std::alloc::Global;
+use std::alloc::{AllocError, Global};
 use std::str::SplitWhitespace;
 
 /// The next word, a decimal number.
@@ -17,19 +17,27 @@ pub fn hexadecimal(words: &mut SplitWhitespace<'_>) -> Result<u32> {
     u32::from_str_radix(word, 16).context("no number")
 }
 
-/// Bytes with others laid over them from a place on, or put behind what stands before it.
-fn changed(alloc: Global, base: &[u8], at: usize, input: &[u8], cut: bool) -> Result<Vec<u8>> {
-    let mut bytes = Vec::from_slice(alloc, base.get(..at).context("no such place")?)?;
-    bytes.extend_from_slice(input)?;
-    if !cut {
-        let behind = at.checked_add(input.len()).context("too many bytes")?;
-        bytes.extend_from_slice(base.get(behind..).context("bytes past the end")?)?;
-    }
+/// Bytes, others and others again.
+fn joined(alloc: Global, front: &[u8], middle: &[u8], end: &[u8]) -> Result<Vec<u8>, AllocError> {
+    let mut bytes = Vec::from_slice(alloc, front)?;
+    bytes.extend_from_slice(middle)?;
+    bytes.extend_from_slice(end)?;
     Ok(bytes)
 }
 
+/// Bytes with others laid over them from a place on, if there is room for them.
+fn overlaid(
+    alloc: Global,
+    base: &[u8],
+    at: usize,
+    input: &[u8],
+) -> Option<Result<Vec<u8>, AllocError>> {
+    let end = base.get(at.checked_add(input.len())?..)?;
+    Some(joined(alloc, base.get(..at)?, input, end))
+}
+
 /// Bytes with others so many times behind them.
-fn repeated(alloc: Global, base: &[u8], count: usize, input: &[u8]) -> Result<Vec<u8>> {
+fn repeated(alloc: Global, base: &[u8], count: usize, input: &[u8]) -> Result<Vec<u8>, AllocError> {
     let mut bytes = Vec::from_slice(alloc, base)?;
     for _ in 0..count {
         bytes.extend_from_slice(input)?;
@@ -45,19 +53,31 @@ pub fn made(
     words: &mut SplitWhitespace<'_>,
     input: &[u8],
 ) -> Result<Vec<u8>> {
-    match words.next() {
-        None => repeated(alloc, b"", 1, input),
-        Some("behind") => repeated(alloc, base, 1, input),
+    let bytes = match words.next() {
+        None => joined(alloc, b"", input, b""),
+        Some("behind") => joined(alloc, base, input, b""),
         Some("times") => repeated(alloc, base, count(words)?, input),
-        Some("first") => changed(alloc, base, count(words)?, input, true),
-        Some("at") => changed(alloc, base, count(words)?, input, false),
+        Some("first") => {
+            let front = base.get(..count(words)?).context("too few bytes")?;
+            joined(alloc, front, input, b"")
+        }
+        Some("at") => overlaid(alloc, base, count(words)?, input).context("no such place")?,
         Some(_) => bail!("no such way"),
-    }
+    };
+    Ok(bytes?)
 }
 
 /// Bytes as text.
 pub fn text(input: &[u8]) -> Result<&str> {
     std::str::from_utf8(input).context("no text")
+}
+
+/// Adds a segment to an image: its address and its bytes.
+fn add_segment(alloc: Global, image: &mut Image, segment: &str) -> Result<()> {
+    let (address, digits) = segment.split_once(' ').context("no bytes")?;
+    let address = u32::from_str_radix(address, 16).context("no address")?;
+    image.add(address, hex::decode(alloc, digits).context("no digits")?)?;
+    Ok(())
 }
 
 /// The image of a text: for each segment its address and its bytes, with commas between them.
@@ -67,9 +87,7 @@ pub fn image_of(alloc: Global, input: &[u8]) -> Result<Image> {
         return Ok(image);
     }
     for segment in text(input)?.split(',') {
-        let (address, digits) = segment.split_once(' ').context("no bytes")?;
-        let address = u32::from_str_radix(address, 16).context("no address")?;
-        image.add(address, hex::decode(alloc, digits).context("no digits")?)?;
+        add_segment(alloc, &mut image, segment)?;
     }
     Ok(image)
 }

@@ -3,7 +3,7 @@
 use crate::input::{hexadecimal, text};
 use anyhow::{Context, Result, bail};
 use hm_text_base::{binary_digit, decimal, hex_bytes, hex2, hex8, read_hex8, span};
-use std::alloc::Global;
+use std::alloc::{AllocError, Global};
 use std::str::SplitWhitespace;
 
 /// The number that decimal digits give.
@@ -12,31 +12,33 @@ fn read_decimal(input: &[u8]) -> Result<u64> {
 }
 
 /// The word that eight hexadecimal digits give, in another form than that.
-pub fn word(alloc: Global, input: &[u8]) -> Result<String> {
+pub fn word(alloc: Global, input: &[u8]) -> Result<String, AllocError> {
     match read_hex8(input) {
-        Some(n) => Ok(format!(in alloc; "0x{n:x}")?),
-        None => Ok(String::from_str(alloc, "none")?),
+        Some(n) => format!(in alloc; "0x{n:x}"),
+        None => String::from_str(alloc, "none"),
     }
+}
+
+/// Adds a number in a form.
+fn add_number(alloc: Global, out: &mut Vec<u8>, form: &str, n: u64) -> Result<()> {
+    match form {
+        "hex2" => hex2(out, u8::try_from(n).context("too large")?)?,
+        "hex8" => hex8(out, u32::try_from(n).context("too large")?)?,
+        "bit" => binary_digit(out, n != 0)?,
+        "decimal" => decimal(alloc, out, n)?,
+        _ => bail!("no such form"),
+    }
+    Ok(())
 }
 
 /// A number, bytes or a text behind `x `, as the next word says.
 pub fn written(alloc: Global, words: &mut SplitWhitespace<'_>, input: &[u8]) -> Result<String> {
-    let mut out = Vec::new(alloc);
-    hm_text_base::text(&mut out, b"x ")?;
-    match words.next().context("a form is wanted")? {
+    let form = words.next().context("a form is wanted")?;
+    let mut out = Vec::from_slice(alloc, b"x ")?;
+    match form {
         "text" => hm_text_base::text(&mut out, input)?,
-        "hex2" => hex2(
-            &mut out,
-            u8::try_from(read_decimal(input)?).context("too large")?,
-        )?,
-        "hex8" => hex8(
-            &mut out,
-            u32::try_from(read_decimal(input)?).context("too large")?,
-        )?,
         "bytes" => hex_bytes(alloc, &mut out, input)?,
-        "bit" => binary_digit(&mut out, read_decimal(input)? != 0)?,
-        "decimal" => decimal(alloc, &mut out, read_decimal(input)?)?,
-        _ => bail!("no such form"),
+        _ => add_number(alloc, &mut out, form, read_decimal(input)?)?,
     }
     Ok(String::from_utf8(out)?)
 }

@@ -44,13 +44,19 @@ impl Setting {
         }
     }
 
+    /// Takes a label.
+    fn add_label(&mut self, text: &str) -> Result<()> {
+        let (name, address) = text.split_once('=').context("no label")?;
+        let address = u32::from_str_radix(address, 16).context("no address")?;
+        ensure!(self.labels.add(name.as_bytes(), address)?, "twice a label");
+        Ok(())
+    }
+
     /// Takes labels in place of those before.
     fn set_labels(&mut self, words: &mut SplitWhitespace<'_>) -> Result<()> {
         self.labels = Labels::new(self.alloc);
         for word in words {
-            let (name, address) = word.split_once('=').context("no label")?;
-            let address = u32::from_str_radix(address, 16).context("no address")?;
-            ensure!(self.labels.add(name.as_bytes(), address)?, "twice a label");
+            self.add_label(word)?;
         }
         Ok(())
     }
@@ -142,26 +148,13 @@ impl Setting {
         }
     }
 
-    /// Takes a line of words and perhaps a text, and answers whether it is a case.
-    fn take_words(
-        &mut self,
-        name: &str,
-        words: &mut SplitWhitespace<'_>,
-        text: Option<&str>,
-    ) -> Result<bool> {
-        match (name, text) {
-            ("labels", None) => self.set_labels(words)?,
-            ("bytes", None) => self.add_bytes(words)?,
-            (_, Some(text)) => {
-                self.check_quoted(name, words, text)?;
-                return Ok(true);
-            }
-            (_, None) => {
-                self.check_plain(name, words)?;
-                return Ok(true);
-            }
+    /// Takes a line without a text.
+    fn take_plain(&mut self, name: &str, words: &mut SplitWhitespace<'_>) -> Result<()> {
+        match name {
+            "labels" => self.set_labels(words),
+            "bytes" => self.add_bytes(words),
+            _ => self.check_plain(name, words),
         }
-        Ok(false)
     }
 
     /// Takes a line, and answers whether it is a case. A case that is otherwise than told is refused, with what is here.
@@ -170,11 +163,15 @@ impl Setting {
             return Ok(false);
         }
         let (mut words, text) = parts(line)?;
-        let is_case = self.take_words(word(&mut words)?, &mut words, text)?;
+        let name = word(&mut words)?;
+        match text {
+            Some(text) => self.check_quoted(name, &mut words, text)?,
+            None => self.take_plain(name, &mut words)?,
+        }
         if let Some(word) = words.next() {
             ensure!(word.starts_with('#'), "{word} is one word too many");
         }
-        Ok(is_case)
+        Ok(!matches!(name, "labels" | "bytes"))
     }
 }
 
