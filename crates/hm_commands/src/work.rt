@@ -1,6 +1,6 @@
 //! What a command comes to, once its files are read: what is to be written and printed, or a refusal.
 
-ghost use Rattle.std.specs.Prelude.{◌≡◌, IfOk, None, Some, true};
+ghost use Rattle.std.specs.Prelude.{◌≡◌, ◌++◌, IfOk, None, Some, true, codes, decimal};
 ghost use Rattle.hm_commands.specs.Work.{asm_kind_text, image_text, kind_text, schedule_text, journal_refusal_text, kernel_kind_text, kernel_text, script_text};
 ghost use Rattle.hm_commands.specs.Work.{finish_of, finishes, source_text, refusal_text};
 
@@ -76,31 +76,36 @@ pub enum Refusal {
     Reset { value: u32 },
 }
 
-/// Adds what is wrong with an image. Want of memory is no such thing, and adds nothing.
-fn add_image_text(alloc: Global, out: &mut Vec<u8>, e: ImageErr) -> Result<(), OutOfMemory>
-    ensures { IfOk result (λ _. out.new.items ≡ image_text e out.old.items) }
+/// Adds words, and a number behind them.
+fn add_numbered(
+    alloc: Global,
+    out: &mut Vec<u8>,
+    words: &[u8],
+    number: u32,
+) -> Result<(), OutOfMemory>
+    ensures { IfOk result (λ _. out.new.items ≡ out.old.items ++ words.now ++ decimal number) }
 {
+    text(out, words)?;
+    decimal(alloc, out, u64::from(number))
+}
+
+/// Adds what is wrong with an image, behind its word. Want of memory is no such thing, and adds the word alone.
+fn add_image_text(alloc: Global, out: &mut Vec<u8>, e: ImageErr) -> Result<(), OutOfMemory>
+    ensures { IfOk result (λ _. out.new.items ≡ image_text e (out.old.items ++ codes "image ")) }
+{
+    text(out, b"image ")?;
     match e {
         ImageErr::Short => text(out, b"short"),
         ImageErr::Long => text(out, b"long"),
-        ImageErr::Truncated { at } => {
-            text(out, b"truncated ")?;
-            decimal(alloc, out, at as u64)
-        }
+        ImageErr::Truncated { at } => add_numbered(alloc, out, b"truncated ", at),
         ImageErr::Class => text(out, b"class"),
         ImageErr::Order => text(out, b"order"),
         ImageErr::Header => text(out, b"header"),
         ImageErr::Kind => text(out, b"kind"),
         ImageErr::Machine => text(out, b"machine"),
         ImageErr::TooMany => text(out, b"too many"),
-        ImageErr::Segment { index } => {
-            text(out, b"segment ")?;
-            decimal(alloc, out, index as u64)
-        }
-        ImageErr::Hex { line } => {
-            text(out, b"hex ")?;
-            decimal(alloc, out, line as u64)
-        }
+        ImageErr::Segment { index } => add_numbered(alloc, out, b"segment ", index),
+        ImageErr::Hex { line } => add_numbered(alloc, out, b"hex ", line),
         ImageErr::OutOfMemory => Ok(()),
     }
 }
@@ -122,21 +127,18 @@ fn kind_text(kind: LineKind) -> &'static [u8]
     }
 }
 
-/// Adds what is wrong with a schedule. Want of memory is no such thing, and adds nothing.
+/// Adds what is wrong with a schedule, behind its word. Want of memory is no such thing, and adds the word alone.
 fn add_schedule_text(alloc: Global, out: &mut Vec<u8>, e: SchedErr) -> Result<(), OutOfMemory>
-    ensures { IfOk result (λ _. out.new.items ≡ schedule_text e out.old.items) }
+    ensures { IfOk result (λ _. out.new.items ≡ schedule_text e (out.old.items ++ codes "schedule ")) }
 {
+    text(out, b"schedule ")?;
     match e {
         SchedErr::Line { line, kind } => {
-            text(out, b"line ")?;
-            decimal(alloc, out, line as u64)?;
+            add_numbered(alloc, out, b"line ", line)?;
             separator(out)?;
             text(out, kind_text(kind))
         }
-        SchedErr::TooManyTicks { line } => {
-            text(out, b"too many ticks ")?;
-            decimal(alloc, out, line as u64)
-        }
+        SchedErr::TooManyTicks { line } => add_numbered(alloc, out, b"too many ticks ", line),
         SchedErr::OutOfMemory => Ok(()),
     }
 }
@@ -155,16 +157,15 @@ fn asm_kind_text(kind: AsmKind) -> &'static [u8]
     }
 }
 
-/// Adds what is wrong with a source. Want of memory is no such thing, and adds nothing.
+/// Adds what is wrong with a source, behind its word. Want of memory is no such thing, and adds the word alone.
 fn add_source_text(alloc: Global, out: &mut Vec<u8>, e: AsmErr) -> Result<(), OutOfMemory>
-    ensures { IfOk result (λ _. out.new.items ≡ source_text e out.old.items) }
+    ensures { IfOk result (λ _. out.new.items ≡ source_text e (out.old.items ++ codes "source ")) }
 {
+    text(out, b"source ")?;
     match e {
         AsmErr::Line { line, column, kind } => {
-            text(out, b"line ")?;
-            decimal(alloc, out, line as u64)?;
-            text(out, b" column ")?;
-            decimal(alloc, out, column as u64)?;
+            add_numbered(alloc, out, b"line ", line)?;
+            add_numbered(alloc, out, b" column ", column)?;
             separator(out)?;
             text(out, asm_kind_text(kind))
         }
@@ -172,33 +173,29 @@ fn add_source_text(alloc: Global, out: &mut Vec<u8>, e: AsmErr) -> Result<(), Ou
     }
 }
 
-/// Adds what is wrong with a script. Want of memory is no such thing, and adds nothing.
+/// Adds what is wrong with a script, behind its word. Want of memory is no such thing, and adds the word alone.
 fn add_script_text(alloc: Global, out: &mut Vec<u8>, e: ScriptErr) -> Result<(), OutOfMemory>
-    ensures { IfOk result (λ _. out.new.items ≡ script_text e out.old.items) }
+    ensures { IfOk result (λ _. out.new.items ≡ script_text e (out.old.items ++ codes "script ")) }
 {
+    text(out, b"script ")?;
     match e {
-        ScriptErr::Line { line } => {
-            text(out, b"line ")?;
-            decimal(alloc, out, line as u64)
-        }
+        ScriptErr::Line { line } => add_numbered(alloc, out, b"line ", line),
         ScriptErr::TooManyLines => text(out, b"too many lines"),
         ScriptErr::OutOfMemory => Ok(()),
     }
 }
 
-/// Adds what is wrong with a journal. Want of memory is no such thing, and adds nothing.
+/// Adds what is wrong with a journal, behind its word. Want of memory is no such thing, and adds the word alone.
 fn add_journal_text(alloc: Global, out: &mut Vec<u8>, e: JournalErr) -> Result<(), OutOfMemory>
-    ensures { IfOk result (λ _. out.new.items ≡ journal_refusal_text e out.old.items) }
+    ensures { IfOk result (λ _. out.new.items ≡ journal_refusal_text e (out.old.items ++ codes "journal ")) }
 {
+    text(out, b"journal ")?;
     match e {
         JournalErr::TooMany => text(out, b"too many"),
         JournalErr::Json => text(out, b"json"),
         JournalErr::Shape => text(out, b"shape"),
         JournalErr::Format => text(out, b"format"),
-        JournalErr::Differs { tick } => {
-            text(out, b"differs ")?;
-            decimal(alloc, out, tick as u64)
-        }
+        JournalErr::Differs { tick } => add_numbered(alloc, out, b"differs ", tick),
         JournalErr::OutOfMemory => Ok(()),
     }
 }
@@ -217,14 +214,14 @@ fn kernel_kind_text(kind: KernelKind) -> &'static [u8]
     }
 }
 
-/// Adds what is wrong with a text of the array language. Want of memory is no such thing, and adds nothing.
+/// Adds what is wrong with a text of the array language, behind its word. Want of memory is no such thing, and adds the word alone.
 fn add_kernel_text(alloc: Global, out: &mut Vec<u8>, e: KernelErr) -> Result<(), OutOfMemory>
-    ensures { IfOk result (λ _. out.new.items ≡ kernel_text e out.old.items) }
+    ensures { IfOk result (λ _. out.new.items ≡ kernel_text e (out.old.items ++ codes "kernel ")) }
 {
+    text(out, b"kernel ")?;
     match e {
         KernelErr::Line { line, kind } => {
-            text(out, b"line ")?;
-            decimal(alloc, out, line as u64)?;
+            add_numbered(alloc, out, b"line ", line)?;
             separator(out)?;
             text(out, kernel_kind_text(kind))
         }
@@ -239,34 +236,13 @@ impl Refusal {
     {
         match self {
             Refusal::FileTooLarge => text(out, b"file too large"),
-            Refusal::Image(e) => {
-                text(out, b"image ")?;
-                add_image_text(alloc, out, e)
-            }
-            Refusal::Schedule(e) => {
-                text(out, b"schedule ")?;
-                add_schedule_text(alloc, out, e)
-            }
-            Refusal::Source(e) => {
-                text(out, b"source ")?;
-                add_source_text(alloc, out, e)
-            }
-            Refusal::Script(e) => {
-                text(out, b"script ")?;
-                add_script_text(alloc, out, e)
-            }
-            Refusal::Journal(e) => {
-                text(out, b"journal ")?;
-                add_journal_text(alloc, out, e)
-            }
-            Refusal::Kernel(e) => {
-                text(out, b"kernel ")?;
-                add_kernel_text(alloc, out, e)
-            }
-            Refusal::Past { last } => {
-                text(out, b"replay past ")?;
-                decimal(alloc, out, last as u64)
-            }
+            Refusal::Image(e) => add_image_text(alloc, out, e),
+            Refusal::Schedule(e) => add_schedule_text(alloc, out, e),
+            Refusal::Source(e) => add_source_text(alloc, out, e),
+            Refusal::Script(e) => add_script_text(alloc, out, e),
+            Refusal::Journal(e) => add_journal_text(alloc, out, e),
+            Refusal::Kernel(e) => add_kernel_text(alloc, out, e),
+            Refusal::Past { last } => add_numbered(alloc, out, b"replay past ", last),
             Refusal::Reset { value } => {
                 text(out, b"image reset ")?;
                 hex8(out, value)
