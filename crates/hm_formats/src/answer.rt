@@ -9,7 +9,7 @@ use hm_tokens::is_label_name;
 use std::alloc::Global;
 use std::str::SplitWhitespace;
 
-/// What is asked of a text and needs no more.
+/// What is asked of a word, or of an instruction's line, and is told whatever its bytes are.
 fn of_text(alloc: Global, ask: &str, input: &[u8]) -> Result<String> {
     let answer = match ask {
         "number" => format!(in alloc; "{:?}", read_number(input)),
@@ -24,7 +24,7 @@ fn of_text(alloc: Global, ask: &str, input: &[u8]) -> Result<String> {
     Ok(answer?)
 }
 
-/// What is asked of tokens.
+/// What is asked of tokens, and is told whatever their bytes are.
 fn of_tokens(alloc: Global, ask: &str, input: &[u8]) -> Result<String> {
     let answer = match ask {
         "tokens" => tokens::tokens(alloc, input),
@@ -38,7 +38,7 @@ fn of_tokens(alloc: Global, ask: &str, input: &[u8]) -> Result<String> {
     Ok(answer?)
 }
 
-/// What is asked of a line or a source.
+/// What is asked of a line, a source or an image, and may be refused.
 fn of_line(alloc: Global, ask: &str, input: &[u8]) -> Result<String> {
     match ask {
         "labels" => lines::labels(alloc, input),

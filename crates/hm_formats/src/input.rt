@@ -17,7 +17,7 @@ pub fn hexadecimal(words: &mut SplitWhitespace<'_>) -> Result<u32> {
     u32::from_str_radix(word, 16).context("no number")
 }
 
-/// Bytes, others and others again.
+/// The bytes of three slices, one behind the other.
 fn joined(alloc: Global, front: &[u8], middle: &[u8], end: &[u8]) -> Result<Vec<u8>, AllocError> {
     let mut bytes = Vec::from_slice(alloc, front)?;
     bytes.extend_from_slice(middle)?;
@@ -25,15 +25,9 @@ fn joined(alloc: Global, front: &[u8], middle: &[u8], end: &[u8]) -> Result<Vec<
     Ok(bytes)
 }
 
-/// Bytes with others laid over them from a place on, if there is room for them.
-fn overlaid(
-    alloc: Global,
-    base: &[u8],
-    at: usize,
-    input: &[u8],
-) -> Option<Result<Vec<u8>, AllocError>> {
-    let end = base.get(at.checked_add(input.len())?..)?;
-    Some(joined(alloc, base.get(..at)?, input, end))
+/// What stands before a place, and what stands behind so many bytes from there on.
+fn around(base: &[u8], at: usize, length: usize) -> Option<(&[u8], &[u8])> {
+    Some((base.get(..at)?, base.get(at.checked_add(length)?..)?))
 }
 
 /// Bytes with others so many times behind them.
@@ -61,7 +55,10 @@ pub fn made(
             let front = base.get(..count(words)?).context("too few bytes")?;
             joined(alloc, front, input, b"")
         }
-        Some("at") => overlaid(alloc, base, count(words)?, input).context("no such place")?,
+        Some("at") => {
+            let (front, end) = around(base, count(words)?, input.len()).context("no such place")?;
+            joined(alloc, front, input, end)
+        }
         Some(_) => bail!("no such way"),
     };
     Ok(bytes?)

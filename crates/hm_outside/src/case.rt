@@ -1,7 +1,7 @@
 //! The tests of a file, as they are read.
 
 use crate::register::{Register, set_core, set_registers};
-use anyhow::{Context, Result};
+use anyhow::{Context, Result, ensure};
 use hm_isa::Below;
 use hm_mem::Actor;
 use hm_regs::Regs;
@@ -186,7 +186,8 @@ impl Case {
     }
 
     /// Takes how it ends.
-    fn end_so(&mut self, ending: &str) -> Result<()> {
+    fn take_ending(&mut self, ending: &str) -> Result<()> {
+        ensure!(!ending.is_empty(), "an ending is wanted");
         self.ends.clear();
         self.ends.push_str(ending)?;
         Ok(())
@@ -199,7 +200,7 @@ impl Case {
     }
 
     /// Takes a line of numbers or registers.
-    fn take_words(&mut self, name: &str, rest: &str, text: &str) -> Option<()> {
+    fn take_numbers(&mut self, name: &str, rest: &str, text: &str) -> Option<()> {
         match name {
             "at" | "steps" | "beat" | "last" | "handler" => self.take_number(name, rest),
             "regs" => self.take_core(rest),
@@ -217,10 +218,10 @@ impl Case {
             "bytes" => add_segment(alloc, rest, &mut self.loaded),
             "tainted" => add_numbers(rest, &mut self.tainted),
             "then" => self.change(alloc, rest),
-            "ends" => self.end_so(rest),
+            "ends" => self.take_ending(rest),
             "reads" | "writes" | "loads" | "stores" | "family" => self.touch(text),
             _ => self
-                .take_words(name, rest, text)
+                .take_numbers(name, rest, text)
                 .context("no number or register, or a word too many"),
         }
     }

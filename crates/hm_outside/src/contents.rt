@@ -22,13 +22,6 @@ pub fn blank_flash(alloc: Global) -> Result<Vec<u8>> {
     Ok(flash)
 }
 
-/// A copy of bytes.
-fn copied(alloc: Global, bytes: &[u8]) -> Result<Vec<u8>> {
-    let mut copy = Vec::with_capacity(alloc, bytes.len())?;
-    copy.extend_from_slice(bytes)?;
-    Ok(copy)
-}
-
 /// Lays bytes over others, from an index on; None where there is no room for them.
 fn lay(target: &mut [u8], at: usize, bytes: &[u8]) -> Option<()> {
     let end = at.checked_add(bytes.len())?;
@@ -58,7 +51,7 @@ fn lay_in_sram(sram: &mut [u8], segments: &[Segment]) -> Option<()> {
 
 /// Flash before a test, given flash with `nop` everywhere.
 fn flash_before(alloc: Global, blank: &[u8], case: &Case) -> Result<Vec<u8>> {
-    let mut flash = copied(alloc, blank)?;
+    let mut flash = blank.to_vec(alloc)?;
     lay(&mut flash, case.before.pc as usize, &case.code).context("code past flash")?;
     lay_in_flash(&mut flash, &case.loaded).context("bytes past flash")?;
     Ok(flash)

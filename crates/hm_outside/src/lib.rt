@@ -30,9 +30,9 @@ fn write_cases<W: Write>(out: &mut W, alloc: Global, name: &str, cases: &[Case])
     let flash = blank_flash(alloc)?;
     let mut differ = 0_usize;
     for case in cases {
-        let differences = differences(alloc, case, &flash)?;
-        write_one(out, name, case, &differences)?;
-        if !differences.is_empty() {
+        let found = differences(alloc, case, &flash)?;
+        write_one(out, name, case, &found)?;
+        if !found.is_empty() {
             differ = differ.saturating_add(1);
         }
     }

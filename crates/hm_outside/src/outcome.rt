@@ -5,7 +5,7 @@ use crate::contents::{memory_before, sram_after};
 use crate::perform::{Ending, add_first_touch, perform};
 use crate::register::Register;
 use anyhow::Result;
-use hm_base::{SRAM_SIZE, SRAM_START};
+use hm_base::SRAM_START;
 use hm_mem::Mem;
 use hm_regs::Regs;
 use std::alloc::{AllocError, Global};
@@ -44,11 +44,9 @@ fn compare_registers(case: &Case, regs: &Regs, all: &mut String) -> Result<(), A
 
 /// Tells the first byte of SRAM that is not as told.
 fn compare_sram(mem: &Mem, told: &[u8], all: &mut String) -> Result<(), AllocError> {
-    for k in 0..SRAM_SIZE {
-        let addr = SRAM_START + k;
+    for (addr, told) in (SRAM_START..u32::MAX).zip(told) {
         let here = mem.byte(addr).unwrap_or(0);
-        let told = told.get(k as usize).copied().unwrap_or(0);
-        if here != told {
+        if here != *told {
             return writeln!(all, "byte {addr:08x} {here:02x}, told {told:02x}");
         }
     }

@@ -156,7 +156,7 @@ fn add_vector(v: &Vector, b: Below<4>, regs: &Regs, lines: &mut String) -> Resul
 {
     let row = any(v);
     add_touch(&row.touch(b.get() as u8, regs), lines)?;
-    lines.push_str(family_line(&row))
+    writeln!(lines, "{}", family_line(&row))
 }
 
 /// Adds the lines of what the first beat of a test touches: none if there is no context, or no vector instruction.

@@ -61,13 +61,12 @@ impl fmt::Display for Told {
         match self.register {
             Register::Core(n) => write!(f, "r{} {word:08x}", n.get()),
             Register::Vector(n) => write!(f, "q{} {word:08x} {b:08x} {c:08x} {d:08x}", n.get()),
-            Register::Flags => write!(f, "flags {word:05b}"),
             other => write_other(f, other, word),
         }
     }
 }
 
-/// Writes a register that is neither numbered nor flags, and what stands in it.
+/// Writes a register that has no number, and what stands in it.
 fn write_other<W: fmt::Write>(
     f: &mut fmt::Formatter<W>,
     register: Register,
@@ -75,7 +74,10 @@ fn write_other<W: fmt::Write>(
 ) -> fmt::Result {
     let name = register.name();
     let width = register.width();
-    write!(f, "{name} {word:0width$x}")
+    match register {
+        Register::Flags => write!(f, "{name} {word:0width$b}"),
+        _ => write!(f, "{name} {word:0width$x}"),
+    }
 }
 
 /// A number with this one bit where the flag is set.

@@ -207,7 +207,7 @@ impl Bench {
 
     /// What the machine answers, its report, or all that it shows.
     fn run_answer(&mut self, alloc: Global, ask: &str, text: &str) -> Result<String> {
-        let machine = self.machine.as_mut().context("no machine")?;
+        let machine = self.machine.as_mut().context("no machine, or no question")?;
         match ask {
             "shows" => yes_or_no(alloc, has_line(&machine.report(alloc)?, text)),
             "alike" => yes_or_no(alloc, shown(alloc, machine)? == self.kept),

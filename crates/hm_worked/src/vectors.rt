@@ -1,6 +1,6 @@
 //! What a vector instruction answers, by its text.
 
-ghost use Rattle.std.specs.Prelude.{IsTrue};
+ghost use Rattle.std.specs.Prelude.{◌<◌, IfOk, IsTrue};
 
 use crate::words::{Broken, Named, Stopped, read_number};
 use anyhow::{Context, Result, bail, ensure};
@@ -40,7 +40,7 @@ fn row(alloc: Global, text: &str) -> Result<Option<Any>> {
     }
 }
 
-/// The registers of a thread that has a context, all else 0.
+/// The registers of a thread that has a context, all else as after a reset, at 8.
 fn with_context() -> Regs
     ensures { IsTrue result.fpca }
 {
@@ -78,7 +78,9 @@ pub fn touched(alloc: Global, text: &str, words: &mut SplitWhitespace<'_>) -> Re
 }
 
 /// How many beats are done of two instructions.
-fn position(words: &mut SplitWhitespace<'_>) -> Result<Window> {
+fn position(words: &mut SplitWhitespace<'_>) -> Result<Window>
+    ensures below { IfOk result (λ at. at.a < 4) }
+{
     let a = read_number(words)?;
     let b = read_number(words)?;
     ensure!(a < 4 && b < 4, "no position");
