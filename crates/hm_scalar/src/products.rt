@@ -1,8 +1,9 @@
 //! Products and quotients.
 
-ghost use Rattle.std.specs.Prelude.{◌≡◌, ℕ, ◌<◌, ◌≤◌, ◌^◌};
+ghost use Rattle.std.specs.Prelude.{◌≡◌, ℕ, ◌<◌, ◌≤◌, ◌^◌, ◌+◌, ◌*◌};
 ghost use Rattle.hm_thumb.specs.ArithRows.{accumulate_row, accumulated, long_result, long_row, magnitude, operated, operation_row, put_long, signed_product};
 ghost use Rattle.hm_thumb.specs.ArithRows.{signed_quotient, t11};
+ghost use Rattle.hm_thumb.specs.RegisterRows.{reg};
 
 use hm_base::Place;
 use hm_isa::words::{SIGN, sign_extended_64};
@@ -93,6 +94,17 @@ fn long_result(name: LongProductName, old: u64, x: u32, y: u32) -> u64
     }
 }
 
+/// The number of 64 bits with its low word in register `l` and its high one in register `h`.
+fn long_at(l: u32, h: u32, regs: &Regs) -> u64
+    requires low { l ≤ 14 }
+    requires high { h ≤ 14 }
+    ensures value { result ≡ reg h regs.now * 2 ^ 32 + reg l regs.now }
+{
+    let low = regs.get(Place::R(l as u8));
+    let high = regs.get(Place::R(h as u8));
+    high as u64 * 0x1_0000_0000 + low as u64
+}
+
 /// Puts the low word into register `l` and the high one into register `h`.
 fn put_long(l: u32, h: u32, x: u64, regs: &mut Regs)
     requires low { l ≤ 14 }
@@ -109,11 +121,9 @@ fn multiply_long(i: &LongProduct, regs: &mut Regs)
 {
     let l = i.l.get();
     let h = i.h.get();
-    let low = regs.get(Place::R(l as u8));
-    let high = regs.get(Place::R(h as u8));
+    let old = long_at(l, h, regs);
     let x = regs.get(Place::R(i.n.get() as u8));
     let y = regs.get(Place::R(i.m.get() as u8));
-    let old = high as u64 * 0x1_0000_0000 + low as u64;
     put_long(l, h, long_result(i.name, old, x, y), regs);
 }
 

@@ -148,11 +148,12 @@ pub fn move_system(i: &T21, regs: &mut Regs)
     if t == 15 {
         return set_flags(regs.fpscr, regs);
     }
-    let x = regs.get(Place::R(t as u8));
+    let core = Place::R(t as u8);
+    let x = regs.get(core);
     match i.name {
-        SystemMoveName::ReadFpscr => regs.set(Place::R(t as u8), regs.fpscr),
-        SystemMoveName::ReadVpr => regs.set(Place::R(t as u8), regs.vpr),
-        SystemMoveName::ReadP0 => regs.set(Place::R(t as u8), regs.vpr % 0x1_0000),
+        SystemMoveName::ReadFpscr => regs.set(core, regs.fpscr),
+        SystemMoveName::ReadVpr => regs.set(core, regs.vpr),
+        SystemMoveName::ReadP0 => regs.set(core, regs.vpr % 0x1_0000),
         SystemMoveName::WriteFpscr => {
             regs.fpscr = x / 0x800_0000 * 0x800_0000 + regs.fpscr % 0x800_0000;
         }

@@ -1,7 +1,9 @@
 //! Shifts by a register, extension, reversal and choice in 32-bit codes.
 
-ghost use Rattle.std.specs.Prelude.{◌≡◌, ℕ, ◌<◌, ◌≤◌};
+ghost use Rattle.std.specs.Prelude.{◌≡◌, ℕ, ◌<◌, ◌≤◌, cond};
 ghost use Rattle.hm_thumb.specs.ArithRows.{bits_of, otherwise, put_told, t8, t9, t10, t20, wide_shift_of};
+ghost use Rattle.hm_thumb.specs.RegisterRows.{reg_or_zero};
+ghost use Rattle.hm_thumb.specs.Blocks.{condition_holds};
 
 use crate::bytes::{extended_by, swapped};
 use crate::operands::reg_or_zero;
@@ -86,16 +88,21 @@ fn otherwise(name: SelectName, y: u32) -> u32
     }
 }
 
+/// The first operand where the condition holds, and else what the row makes of the second.
+fn chosen(i: &T20, regs: &Regs) -> u32
+    ensures value { let y = reg_or_zero i.now.m.value regs.now in
+        result ≡ cond (condition_holds i.now.c.value regs.now) (reg_or_zero i.now.n.value regs.now) (otherwise i.now.name y) }
+{
+    if condition_holds(i.c.get(), regs) {
+        reg_or_zero(i.n.get(), regs)
+    } else {
+        otherwise(i.name, reg_or_zero(i.m.get(), regs))
+    }
+}
+
 /// `csel`, `csinc`, `csinv`, `csneg rd,rn,rm,cond`
 pub fn select(i: &T20, regs: &mut Regs)
     ensures regs { regs.new ≡ t20 i.now regs.old }
 {
-    let x = reg_or_zero(i.n.get(), regs);
-    let y = otherwise(i.name, reg_or_zero(i.m.get(), regs));
-    let chosen = if condition_holds(i.c.get(), regs) {
-        x
-    } else {
-        y
-    };
-    regs.set(Place::R(i.d.get() as u8), chosen);
+    regs.set(Place::R(i.d.get() as u8), chosen(i, regs));
 }
