@@ -1,10 +1,11 @@
 //! Rows that load or store one number, by their forms of address.
 
-ghost use Rattle.std.specs.Prelude.{◌≡◌, ℕ, ◌≤◌, ◌<◌, ◌*◌, ◌%◌, ◌^◌, cond, OnErr};
+ghost use Rattle.std.specs.Prelude.{◌≡◌, ℕ, ◌≤◌, ◌<◌, ◌*◌, ◌%◌, ◌^◌, OnErr};
 ghost use Rattle.hm_mem.specs.Memory.{memory_of};
 ghost use Rattle.hm_thumb.specs.MemoryRows.{indexed, literal, moved, offset, s14, s15, s16, s17, shifted, t12};
 ghost use Rattle.hm_thumb.specs.Steps.{IsDone};
 
+use crate::bases::chosen;
 use crate::single::{Back, access_at, access_row};
 use hm_base::{Place, Stop};
 use hm_isa::{AccessName, Indexed, Literal, Offset, S14, S15, S16, S17, Shifted, T12};
@@ -56,13 +57,6 @@ fn moved(add: bool, n: u32, addr: u32) -> u32
     } else {
         addr.wrapping_sub(n)
     }
-}
-
-/// One of two addresses.
-fn chosen(first: bool, x: u32, y: u32) -> u32
-    ensures value { result ≡ cond first x y }
-{
-    if first { x } else { y }
 }
 
 /// A load or store of two halfwords at an offset upward, as `strb.w rt,[rn,#i]`
