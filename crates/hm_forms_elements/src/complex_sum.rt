@@ -14,10 +14,11 @@ ghost use Rattle.hm_lane_fns.specs.Words.{size_of};
 ghost use Rattle.hm_forms_elements.specs.Forms.{begins_even, halves, other_word, takes_away, complex_sum_at, complex_sum_lane, complex_sum_row};
 ghost use Rattle.hm_forms_elements.specs.Forms.{complex_sum_word};
 
+use crate::words::{finish_word, touch_word};
 use hm_base::{Place, Places, note};
 use hm_beat::Touch;
 use hm_isa::{ComplexSumName, V9};
-use hm_kinds::{Shape, Written, finish_row, read, touch_row};
+use hm_kinds::read;
 use hm_lane::{Size, bytes};
 use hm_lane_fns::{cut, halved, lane_value, merge_active, size, word_place};
 use hm_regs::Regs;
@@ -140,13 +141,7 @@ pub fn touch_complex_sum(row: &V9, b: u8, r: &Regs) -> Touch
     note(&mut sources, second_word(row, b));
     note(&mut sources, word_place(&row.n, b));
     note(&mut sources, word);
-    let shape = Shape {
-        reads_slice: false,
-        slice: false,
-        mask: false,
-        marks: false,
-    };
-    touch_row(sources, Some(word), None, shape, b, r)
+    touch_word(sources, word, false, b, r)
 }
 
 /// Does beat `b` of `vcadd` or `vhcadd`: DDI0553, "VCADD" and "VHCADD". `b` is below 4.
@@ -160,9 +155,5 @@ pub fn beat_complex_sum(row: &V9, b: u8, r: &mut Regs)
     let x = read(r, word_place(&row.n, b));
     let y = read(r, second_word(row, b));
     let new = complex_sum_word(row, size(&row.z), begins_even(row, b), x, y);
-    let written = Written {
-        place,
-        value: merge_active(r, b, old, new),
-    };
-    finish_row(r, Some(written), None, None, None, false, b);
+    finish_word(r, place, merge_active(r, b, old, new), false, b);
 }

@@ -9,11 +9,12 @@ ghost use Rattle.hm_kinds.specs.Row.{row_tree};
 ghost use Rattle.hm_forms_elements.specs.Constants.{constant_op, constant_word, imm_word, immediate, ones_where};
 ghost use Rattle.hm_forms_elements.specs.Forms.{constant_row};
 
+use crate::words::{finish_word, touch_word};
 use hm_base::{Places, note};
 use hm_beat::Touch;
 use hm_isa::V15;
 use hm_isa::words::imm8;
-use hm_kinds::{Shape, Written, finish_row, read, touch_row};
+use hm_kinds::read;
 use hm_lane_fns::{merge_active, word_place};
 use hm_regs::Regs;
 
@@ -122,13 +123,7 @@ pub fn touch_constant(row: &V15, b: u8, r: &Regs) -> Touch
     let word = word_place(&row.d, b);
     let mut sources = Places::new();
     note(&mut sources, word);
-    let shape = Shape {
-        reads_slice: false,
-        slice: false,
-        mask: false,
-        marks: false,
-    };
-    touch_row(sources, Some(word), None, shape, b, r)
+    touch_word(sources, word, false, b, r)
 }
 
 /// Does beat `b` of `vmov`, `vmvn`, `vorr` or `vbic` with a constant: DDI0553, "VMOV (immediate) (vector)", "VMVN (immediate)",
@@ -141,9 +136,5 @@ pub fn beat_constant(row: &V15, b: u8, r: &mut Regs)
     let word = word_place(&row.d, b);
     let old = read(r, word);
     let new = constant_op(row, old, constant(row, b));
-    let written = Written {
-        place: word,
-        value: merge_active(r, b, old, new),
-    };
-    finish_row(r, Some(written), None, None, None, false, b);
+    finish_word(r, word, merge_active(r, b, old, new), false, b);
 }

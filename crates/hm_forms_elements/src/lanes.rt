@@ -8,10 +8,11 @@ ghost use Rattle.hm_beat.specs.Touches.{reads_in, writes_in};
 ghost use Rattle.hm_kinds.specs.Row.{row_tree};
 ghost use Rattle.hm_forms_elements.specs.Forms.{lanes_row};
 
+use crate::words::{finish_word, touch_word};
 use hm_base::{Places, note};
 use hm_beat::Touch;
 use hm_isa::QRegister;
-use hm_kinds::{Shape, Written, active, finish_row, read, touch_row};
+use hm_kinds::{active, read};
 use hm_lane::Size;
 use hm_lane_fns::{
     LaneFn, Operand, any_both, lanes_saturate, lanes_word, merge_active, note_operand,
@@ -48,13 +49,7 @@ pub fn touch_lanes(l: &Lanes, b: u8, r: &Regs) -> Touch
     note_operand(&mut sources, &l.by, b);
     note(&mut sources, word_place(&l.n, b));
     note(&mut sources, word);
-    let shape = Shape {
-        reads_slice: false,
-        slice: false,
-        mask: false,
-        marks: saturates(l.f),
-    };
-    touch_row(sources, Some(word), None, shape, b, r)
+    touch_word(sources, word, saturates(l.f), b, r)
 }
 
 /// Does beat `b` of a row of lanes: DDI0553, the sections named at the types of `Lanes`' rows. `b` is below 4.
@@ -73,9 +68,5 @@ pub fn beat_lanes(l: &Lanes, b: u8, r: &mut Regs)
             active(r, b),
             lanes_saturate(l.f, l.unsigned, l.z, old, x, y),
         );
-    let written = Written {
-        place: word,
-        value: merge_active(r, b, old, new),
-    };
-    finish_row(r, Some(written), None, None, None, marks, b);
+    finish_word(r, word, merge_active(r, b, old, new), marks, b);
 }

@@ -12,6 +12,7 @@ mod reversed;
 mod select;
 mod shift;
 mod widening;
+mod words;
 
 pub use carry::{beat_carry, touch_carry};
 pub use complex_sum::{beat_complex_sum, touch_complex_sum};

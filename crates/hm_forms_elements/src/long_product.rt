@@ -13,10 +13,11 @@ ghost use Rattle.hm_kinds.specs.Row.{is_body, row_tree};
 ghost use Rattle.hm_lane_fns.specs.Words.{size_of};
 ghost use Rattle.hm_forms_elements.specs.Forms.{long_product_at, long_product_row, long_product_word, product, products};
 
+use crate::words::{finish_word, touch_word};
 use hm_base::{Place, Places, note};
 use hm_beat::Touch;
 use hm_isa::{QRegister, V6};
-use hm_kinds::{Shape, Written, finish_row, read, touch_row};
+use hm_kinds::read;
 use hm_lane::{Size, bytes};
 use hm_lane_fns::{lane_product, merge_active, size, word_place};
 use hm_regs::Regs;
@@ -118,13 +119,7 @@ pub fn touch_long_product(row: &V6, b: u8, r: &Regs) -> Touch
     note(&mut sources, source(row, &row.m, b));
     note(&mut sources, source(row, &row.n, b));
     note(&mut sources, word);
-    let shape = Shape {
-        reads_slice: false,
-        slice: false,
-        mask: false,
-        marks: false,
-    };
-    touch_row(sources, Some(word), None, shape, b, r)
+    touch_word(sources, word, false, b, r)
 }
 
 /// Does beat `b` of `vmullb` or `vmullt`: DDI0553, "VMULL (integer)". `b` is below 4.
@@ -138,9 +133,5 @@ pub fn beat_long_product(row: &V6, b: u8, r: &mut Regs)
     let x = read(r, source(row, &row.n, b));
     let y = read(r, source(row, &row.m, b));
     let new = long_product_word(row, b, x, y);
-    let written = Written {
-        place,
-        value: merge_active(r, b, old, new),
-    };
-    finish_row(r, Some(written), None, None, None, false, b);
+    finish_word(r, place, merge_active(r, b, old, new), false, b);
 }

@@ -10,10 +10,11 @@ ghost use Rattle.hm_lane.specs.Lanes.{bytes_of, modulus, word_of};
 ghost use Rattle.hm_forms_elements.specs.Forms.{gives_unsigned, narrowed, narrowing_bytes, narrowing_outside, narrowing_row, narrowing_saturates};
 ghost use Rattle.hm_forms_elements.specs.Forms.{narrowing_tests, takes_unsigned};
 
+use crate::words::{finish_word, touch_word};
 use hm_base::{Places, note};
 use hm_beat::Touch;
 use hm_isa::{NarrowingName, V16};
-use hm_kinds::{Shape, Written, active, finish_row, read, touch_row};
+use hm_kinds::{active, read};
 use hm_lane::{Size, bytes, word};
 use hm_lane_fns::{any_both, clamped, cut, is_outside, lane_value, merge_active, word_place};
 use hm_regs::Regs;
@@ -134,13 +135,7 @@ pub fn touch_narrowing(row: &V16, b: u8, r: &Regs) -> Touch
     let mut sources = Places::new();
     note(&mut sources, word_place(&row.m, b));
     note(&mut sources, word);
-    let shape = Shape {
-        reads_slice: false,
-        slice: false,
-        mask: false,
-        marks: saturates(row.name),
-    };
-    touch_row(sources, Some(word), None, shape, b, r)
+    touch_word(sources, word, saturates(row.name), b, r)
 }
 
 /// Does beat `b` of `vmovnb`, `vmovnt`, `vqmovnb`, `vqmovnt`, `vqmovunb` or `vqmovunt`: DDI0553, "VMOVN", "VQMOVN" and "VQMOVUN". `b` is below 4.
@@ -157,9 +152,5 @@ pub fn beat_narrowing(row: &V16, b: u8, r: &mut Regs)
     let new = narrowing_word(wide, top, row.name, old, x);
     let marks = saturates(row.name)
         && any_both(active(r, b), narrowing_tests(wide, top, row.name, x));
-    let written = Written {
-        place,
-        value: merge_active(r, b, old, new),
-    };
-    finish_row(r, Some(written), None, None, None, marks, b);
+    finish_word(r, place, merge_active(r, b, old, new), marks, b);
 }

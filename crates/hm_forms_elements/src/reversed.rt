@@ -12,10 +12,11 @@ ghost use Rattle.hm_lane.specs.Lanes.{bytes_of, lanes, unlanes, word_of};
 ghost use Rattle.hm_forms_elements.specs.Forms.{reversed_at, reversed_row, reversed_word};
 
 use crate::complex_sum::other_word;
+use crate::words::{finish_word, touch_word};
 use hm_base::{Place, Places, note};
 use hm_beat::Touch;
 use hm_isa::{ReverseName, V14};
-use hm_kinds::{Shape, Written, finish_row, read, touch_row};
+use hm_kinds::read;
 use hm_lane::{Size, bytes, word};
 use hm_lane_fns::{merge_active, size, word_place};
 use hm_regs::Regs;
@@ -70,13 +71,7 @@ pub fn touch_reversed(row: &V14, b: u8, r: &Regs) -> Touch
     let mut sources = Places::new();
     note(&mut sources, source(row, b));
     note(&mut sources, word);
-    let shape = Shape {
-        reads_slice: false,
-        slice: false,
-        mask: false,
-        marks: false,
-    };
-    touch_row(sources, Some(word), None, shape, b, r)
+    touch_word(sources, word, false, b, r)
 }
 
 /// Does beat `b` of `vrev64`, `vrev32` or `vrev16`: DDI0553, "VREV64", "VREV32" and "VREV16". `b` is below 4.
@@ -89,9 +84,5 @@ pub fn beat_reversed(row: &V14, b: u8, r: &mut Regs)
     let old = read(r, place);
     let x = read(r, source(row, b));
     let new = reversed_word(row.name, size(&row.z), x);
-    let written = Written {
-        place,
-        value: merge_active(r, b, old, new),
-    };
-    finish_row(r, Some(written), None, None, None, false, b);
+    finish_word(r, place, merge_active(r, b, old, new), false, b);
 }

@@ -8,10 +8,11 @@ ghost use Rattle.hm_beat.specs.Touches.{reads_in, writes_in};
 ghost use Rattle.hm_kinds.specs.Row.{row_tree};
 ghost use Rattle.hm_forms_elements.specs.Forms.{select_row};
 
+use crate::words::finish_word;
 use hm_base::{Places, note};
 use hm_beat::Touch;
 use hm_isa::Select;
-use hm_kinds::{Shape, Written, finish_row, read, touch_row};
+use hm_kinds::{Shape, read, touch_row};
 use hm_lane_fns::{merge, merge_active, slice, truths, word_place};
 use hm_regs::Regs;
 
@@ -48,9 +49,5 @@ pub fn beat_select(row: &Select, b: u8, r: &mut Regs)
     let x = read(r, word_place(&row.n, b));
     let y = read(r, word_place(&row.m, b));
     let new = merge(truths(slice(r, b)), y, x);
-    let written = Written {
-        place,
-        value: merge_active(r, b, old, new),
-    };
-    finish_row(r, Some(written), None, None, None, false, b);
+    finish_word(r, place, merge_active(r, b, old, new), false, b);
 }

@@ -11,10 +11,11 @@ ghost use Rattle.hm_kinds.specs.Row.{row_tree};
 ghost use Rattle.hm_forms_elements.specs.Forms.{widened, long_lanes, widening_row, widening_word};
 
 use crate::long_product::picked;
+use crate::words::{finish_word, touch_word};
 use hm_base::{Places, note};
 use hm_beat::Touch;
 use hm_isa::QRegister;
-use hm_kinds::{Shape, Written, finish_row, read, touch_row};
+use hm_kinds::read;
 use hm_lane::{Size, bytes};
 use hm_lane_fns::{extended_lane, merge_active, word_place};
 use hm_regs::Regs;
@@ -83,13 +84,7 @@ pub fn touch_widening(row: &Widening, b: u8, r: &Regs) -> Touch
     let mut sources = Places::new();
     note(&mut sources, word_place(&row.m, b));
     note(&mut sources, word);
-    let shape = Shape {
-        reads_slice: false,
-        slice: false,
-        mask: false,
-        marks: false,
-    };
-    touch_row(sources, Some(word), None, shape, b, r)
+    touch_word(sources, word, false, b, r)
 }
 
 /// Does beat `b` of `vshllb`, `vshllt`, `vmovlb` or `vmovlt`: DDI0553, "VSHLL" and "VMOVL". `b` is below 4.
@@ -102,9 +97,5 @@ pub fn beat_widening(row: &Widening, b: u8, r: &mut Regs)
     let old = read(r, place);
     let x = read(r, word_place(&row.m, b));
     let new = widening_word(row, x);
-    let written = Written {
-        place,
-        value: merge_active(r, b, old, new),
-    };
-    finish_row(r, Some(written), None, None, None, false, b);
+    finish_word(r, place, merge_active(r, b, old, new), false, b);
 }
