@@ -8,6 +8,7 @@ ghost use Rattle.hm_beat.specs.Laws.{run};
 ghost use Rattle.hm_beat.specs.Touches.{reads_in, writes_in};
 ghost use Rattle.hm_beat.specs.Rows.{word_place};
 ghost use Rattle.hm_lane.specs.Lanes.{modulus};
+ghost use Rattle.hm_lane.specs.declared.lanes.Size.TheVariants as size;
 ghost use Rattle.hm_lane_fns.specs.LaneFns.{halved};
 ghost use Rattle.hm_kinds.specs.Row.{is_body, row_tree};
 ghost use Rattle.hm_lane_fns.specs.Words.{size_of};
@@ -82,27 +83,37 @@ fn complex_sum_lane(row: &V9, z: Size, even: bool, x: u32, y: u32) -> u32
     cut(z, v)
 }
 
+/// The new word of bytes, of whose first it is said whether its number is even.
+fn byte_sums(row: &V9, even: bool, x: u32, y: u32) -> u32
+    ensures { result ≡ complex_sum_word row.now size.Byte even x y }
+{
+    let [x0, x1, x2, x3] = bytes(x);
+    let [y0, y1, y2, y3] = bytes(y);
+    let odd = !even;
+    let third = !odd;
+    let c0 = complex_sum_lane(row, Size::Byte, even, x0 as u32, y1 as u32);
+    let c1 = complex_sum_lane(row, Size::Byte, odd, x1 as u32, y0 as u32);
+    let c2 = complex_sum_lane(row, Size::Byte, third, x2 as u32, y3 as u32);
+    let c3 = complex_sum_lane(row, Size::Byte, !third, x3 as u32, y2 as u32);
+    c0 + (c1 << 8) + (c2 << 16) + (c3 << 24)
+}
+
+/// The new word of halfwords, of whose first it is said whether its number is even.
+fn half_sums(row: &V9, even: bool, x: u32, y: u32) -> u32
+    ensures { result ≡ complex_sum_word row.now size.Half even x y }
+{
+    let low = complex_sum_lane(row, Size::Half, even, x % 65536, y >> 16);
+    let high = complex_sum_lane(row, Size::Half, !even, x >> 16, y % 65536);
+    low + (high << 16)
+}
+
 /// The new word, of whose first element it is said whether its number is even.
 fn complex_sum_word(row: &V9, z: Size, even: bool, x: u32, y: u32) -> u32
     ensures { result ≡ complex_sum_word row.now z even x y }
 {
-    let odd = !even;
     match z {
-        Size::Byte => {
-            let [x0, x1, x2, x3] = bytes(x);
-            let [y0, y1, y2, y3] = bytes(y);
-            let third = !odd;
-            let c0 = complex_sum_lane(row, z, even, x0 as u32, y1 as u32);
-            let c1 = complex_sum_lane(row, z, odd, x1 as u32, y0 as u32);
-            let c2 = complex_sum_lane(row, z, third, x2 as u32, y3 as u32);
-            let c3 = complex_sum_lane(row, z, !third, x3 as u32, y2 as u32);
-            c0 + (c1 << 8) + (c2 << 16) + (c3 << 24)
-        }
-        Size::Half => {
-            let low = complex_sum_lane(row, z, even, x % 65536, y >> 16);
-            let high = complex_sum_lane(row, z, odd, x >> 16, y % 65536);
-            low + (high << 16)
-        }
+        Size::Byte => byte_sums(row, even, x, y),
+        Size::Half => half_sums(row, even, x, y),
         Size::Word => complex_sum_lane(row, z, even, x, y),
     }
 }
