@@ -24,6 +24,9 @@ const CONDITIONS: [&str; 14] = [
     "eq", "ne", "cs", "cc", "mi", "pl", "vs", "vc", "hi", "ls", "ge", "lt", "gt", "le",
 ];
 
+/// Other words that stand where a condition or a register does.
+const SPECIALS: [&str; 3] = ["al", "zr", "apsr"];
+
 /// The name of a core register: `r0` to `r12`, `sp`, `lr`, `pc`.
 pub fn register_name(n: u32) -> &'static str
     requires { n < 16 }
@@ -149,7 +152,7 @@ fn is_among(names: &[&str], word: &[u8]) -> bool
 fn is_special(word: &[u8]) -> bool
     ensures value { result ≡ (bytes_eq word.now (codes "al") || bytes_eq word.now (codes "zr") || bytes_eq word.now (codes "apsr")) }
 {
-    matches!(word, b"al" | b"zr" | b"apsr")
+    is_among(&SPECIALS, word)
 }
 
 /// Whether a name is that of a register or a condition.
