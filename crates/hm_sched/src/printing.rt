@@ -6,7 +6,7 @@ ghost use Rattle.hm_text_base.specs.Spans.{line};
 ghost use Rattle.hm_text_base.specs.Texts.{hex8};
 ghost use Rattle.hm_sched.specs.Words.{number_of};
 ghost use Rattle.hm_sched.specs.Schedule.{line_of};
-ghost use Rattle.hm_sched.specs.Written.{ticks_text, irq_text, header_text, entries_text, region_text, floor_text, process_lines, head_lines, IsFile};
+ghost use Rattle.hm_sched.specs.Written.{ticks_text, irq_text, header_text, entries_text, region_text, process_lines, head_lines, IsFile};
 ghost use Rattle.hm_sched.specs.Printed.{ones_from, printed, tick_text, file_text};
 
 use crate::{Line, Schedule};
@@ -127,13 +127,6 @@ fn add_address(out: &mut Vec<u8>, word: &[u8], address: u32) -> Result<(), OutOf
     text(out, b"\n")
 }
 
-/// Adds the line of the main stack's floor.
-fn add_floor(out: &mut Vec<u8>, floor: u32) -> Result<(), OutOfMemory>
-    ensures { IfOk result (λ _. out.new.items ≡ out.old.items ++ line (floor_text floor)) }
-{
-    add_address(out, b"floor ", floor)
-}
-
 /// Adds the line of the process stack's floor, which format 1 lacks.
 fn add_process(out: &mut Vec<u8>, format: u32, process: u32) -> Result<(), OutOfMemory>
     ensures { IfOk result (λ _. out.new.items ≡ out.old.items ++ flat_map line (process_lines format process)) }
@@ -151,7 +144,7 @@ fn add_head(out: &mut Vec<u8>, s: &Schedule) -> Result<(), OutOfMemory>
     add_header(out, s.format)?;
     add_entries(out, s.entries)?;
     add_region(out, s.lo, s.hi)?;
-    add_floor(out, s.floor)?;
+    add_address(out, b"floor ", s.floor)?;
     add_process(out, s.format, s.process)
 }
 
