@@ -11,9 +11,10 @@ ghost use Rattle.hm_run.specs.Report.{mode_line, output_lines, report_of};
 use hm_base::OutOfMemory;
 use hm_regs::Regs;
 use hm_run::Outcome;
-use hm_text_base::{decimal, hex_bytes, text};
+use hm_text_base::{hex_bytes, text};
 use hm_window::Window;
 pub use laws::report_law;
+use outcome_text::number_text;
 pub use outcome_text::{halted_text, kind_text, outcome_line, slot_text, who_text, word_text};
 use registers_text::register_lines;
 use std::alloc::Global;
@@ -25,10 +26,8 @@ fn mode_line(alloc: Global, out: &mut Vec<u8>, depth: usize, ipsr: u16) -> Resul
     if depth == 0 {
         return text(out, b"mode thread\n");
     }
-    text(out, b"mode handler ")?;
-    decimal(alloc, out, ipsr as u64)?;
-    text(out, b" depth ")?;
-    decimal(alloc, out, depth as u64)?;
+    number_text(alloc, out, b"mode handler ", ipsr as u64)?;
+    number_text(alloc, out, b" depth ", depth as u64)?;
     text(out, b"\n")
 }
 
@@ -36,8 +35,7 @@ fn mode_line(alloc: Global, out: &mut Vec<u8>, depth: usize, ipsr: u16) -> Resul
 fn output_lines(alloc: Global, out: &mut Vec<u8>, bytes: &[u8]) -> Result<(), OutOfMemory>
     ensures { IfOk result (λ _. out.new.items ≡ output_lines bytes.now out.old.items) }
 {
-    text(out, b"output ")?;
-    decimal(alloc, out, bytes.len() as u64)?;
+    number_text(alloc, out, b"output ", bytes.len() as u64)?;
     text(out, b"\n")?;
     hex_bytes(alloc, out, bytes)?;
     text(out, b"\n")

@@ -1,6 +1,6 @@
 //! The first line of a report: how the run ended.
 
-ghost use Rattle.std.specs.Prelude.{◌≡◌, ◌++◌, IfOk};
+ghost use Rattle.std.specs.Prelude.{◌≡◌, ◌++◌, IfOk, decimal};
 ghost use Rattle.hm_text_base.specs.Texts.{hex8};
 ghost use Rattle.hm_run.specs.Report.{kind_text, who_text, address_text, reason_text, register_text, word_text, place_text, slot_text, rule_text, broken_text};
 ghost use Rattle.hm_run.specs.Report.{offence_text, halted_text, ended_text, outcome_text, outcome_line};
@@ -11,6 +11,22 @@ use hm_run::{Offence, Outcome, Reason, Who};
 use hm_text_base::{decimal, hex8, separator, text};
 use hm_window::Rule;
 use std::alloc::Global;
+
+/// Adds words and a number.
+pub fn number_text(alloc: Global, out: &mut Vec<u8>, name: &[u8], n: u64) -> Result<(), OutOfMemory>
+    ensures { IfOk result (λ _. out.new.items ≡ out.old.items ++ name.now ++ decimal n) }
+{
+    text(out, name)?;
+    decimal(alloc, out, n)
+}
+
+/// Adds words and an address.
+fn at_text(out: &mut Vec<u8>, name: &[u8], addr: u32) -> Result<(), OutOfMemory>
+    ensures { IfOk result (λ _. out.new.items ≡ out.old.items ++ name.now ++ hex8 addr) }
+{
+    text(out, name)?;
+    hex8(out, addr)
+}
 
 /// The word for a kind of fault.
 pub fn kind_text(kind: FaultKind) -> &'static [u8]
@@ -46,14 +62,8 @@ fn reason_text(alloc: Global, out: &mut Vec<u8>, reason: Reason) -> Result<(), O
     ensures { IfOk result (λ _. out.new.items ≡ reason_text reason out.old.items) }
 {
     match reason {
-        Reason::Break(k) => {
-            text(out, b"break ")?;
-            decimal(alloc, out, k as u64)
-        }
-        Reason::Exit(value) => {
-            text(out, b"exit ")?;
-            hex8(out, value)
-        }
+        Reason::Break(k) => number_text(alloc, out, b"break ", k as u64),
+        Reason::Exit(value) => at_text(out, b"exit ", value),
     }
 }
 
@@ -61,10 +71,8 @@ fn reason_text(alloc: Global, out: &mut Vec<u8>, reason: Reason) -> Result<(), O
 fn address_text(out: &mut Vec<u8>, pc: u32, addr: u32) -> Result<(), OutOfMemory>
     ensures { IfOk result (λ _. out.new.items ≡ address_text pc addr out.old.items) }
 {
-    text(out, b" pc ")?;
-    hex8(out, pc)?;
-    text(out, b" addr ")?;
-    hex8(out, addr)
+    at_text(out, b" pc ", pc)?;
+    at_text(out, b" addr ", addr)
 }
 
 /// Adds the name of core register n: 13 is sp, 14 is lr.
@@ -77,26 +85,15 @@ fn register_text(alloc: Global, out: &mut Vec<u8>, n: u8) -> Result<(), OutOfMem
     if n == 14 {
         return text(out, b"lr");
     }
-    text(out, b"r")?;
-    decimal(alloc, out, n as u64)
+    number_text(alloc, out, b"r", n as u64)
 }
 
 /// Adds the name of word k of all vector registers, as a word of one of them: `q1.2` of word 6.
 pub fn word_text(alloc: Global, out: &mut Vec<u8>, k: usize) -> Result<(), OutOfMemory>
     ensures { IfOk result (λ _. out.new.items ≡ word_text k out.old.items) }
 {
-    text(out, b"q")?;
-    decimal(alloc, out, (k / 4) as u64)?;
-    text(out, b".")?;
-    decimal(alloc, out, (k % 4) as u64)
-}
-
-/// Adds the name of the part of P0 that beat b reads.
-fn slice_text(alloc: Global, out: &mut Vec<u8>, b: u8) -> Result<(), OutOfMemory>
-    ensures { IfOk result (λ _. out.new.items ≡ place_text (Place.P0 b) out.old.items) }
-{
-    text(out, b"p0.")?;
-    decimal(alloc, out, b as u64)
+    number_text(alloc, out, b"q", (k / 4) as u64)?;
+    number_text(alloc, out, b".", (k % 4) as u64)
 }
 
 /// Adds the name of a place: a core register, a word of a vector register, or a part of VPR or FPSCR.
@@ -106,7 +103,7 @@ fn place_text(alloc: Global, out: &mut Vec<u8>, place: Place) -> Result<(), OutO
     match place {
         Place::R(n) => register_text(alloc, out, n),
         Place::QWord(k) => word_text(alloc, out, k as usize),
-        Place::P0(b) => slice_text(alloc, out, b),
+        Place::P0(b) => number_text(alloc, out, b"p0.", b as u64),
         Place::Mask01 => text(out, b"mask01"),
         Place::Mask23 => text(out, b"mask23"),
         Place::Carry => text(out, b"carry"),
@@ -131,18 +128,9 @@ pub fn slot_text(alloc: Global, out: &mut Vec<u8>, slot: Slot) -> Result<(), Out
 fn ending_text(alloc: Global, out: &mut Vec<u8>, a: u8, b: u8) -> Result<(), OutOfMemory>
     ensures { IfOk result (λ _. out.new.items ≡ rule_text (Rule.Ending a b) out.old.items) }
 {
-    text(out, b"ending ")?;
-    decimal(alloc, out, a as u64)?;
+    number_text(alloc, out, b"ending ", a as u64)?;
     separator(out)?;
     decimal(alloc, out, b as u64)
-}
-
-/// Adds a word and an address.
-fn at_text(out: &mut Vec<u8>, name: &[u8], addr: u32) -> Result<(), OutOfMemory>
-    ensures { IfOk result (λ _. out.new.items ≡ out.old.items ++ name.now ++ hex8 addr) }
-{
-    text(out, name)?;
-    hex8(out, addr)
 }
 
 /// Adds the register at which two steps meet.
@@ -179,10 +167,8 @@ fn differing_text(
 {
     text(out, b"register ")?;
     slot_text(alloc, out, name)?;
-    text(out, b" entry ")?;
-    hex8(out, entry)?;
-    text(out, b" now ")?;
-    hex8(out, now)
+    at_text(out, b" entry ", entry)?;
+    at_text(out, b" now ", now)
 }
 
 /// Adds how a return was broken.
@@ -218,8 +204,7 @@ pub fn halted_text(
 {
     text(out, b"halted ")?;
     reason_text(alloc, out, reason)?;
-    text(out, b" after ")?;
-    decimal(alloc, out, n)
+    number_text(alloc, out, b" after ", n)
 }
 
 /// Adds whose fault it was, its kind, where, and after how many instructions.
@@ -238,8 +223,7 @@ fn fault_text(
     separator(out)?;
     text(out, kind_text(fault.kind))?;
     address_text(out, pc, fault.addr)?;
-    text(out, b" after ")?;
-    decimal(alloc, out, n)
+    number_text(alloc, out, b" after ", n)
 }
 
 /// Adds the tick and the step at which a rule was broken, and the rule.
@@ -252,10 +236,8 @@ fn broken_rule_text(
 ) -> Result<(), OutOfMemory>
     ensures { IfOk result (λ _. out.new.items ≡ ended_text (Outcome.RuleBroken tick step rule) out.old.items) }
 {
-    text(out, b"rule tick ")?;
-    decimal(alloc, out, tick as u64)?;
-    text(out, b" step ")?;
-    decimal(alloc, out, step as u64)?;
+    number_text(alloc, out, b"rule tick ", tick as u64)?;
+    number_text(alloc, out, b" step ", step as u64)?;
     separator(out)?;
     rule_text(alloc, out, rule)
 }
@@ -269,8 +251,7 @@ fn handler_text(
 ) -> Result<(), OutOfMemory>
     ensures { IfOk result (λ _. out.new.items ≡ ended_text (Outcome.HandlerBroken tick what) out.old.items) }
 {
-    text(out, b"handler tick ")?;
-    decimal(alloc, out, tick as u64)?;
+    number_text(alloc, out, b"handler tick ", tick as u64)?;
     separator(out)?;
     offence_text(alloc, out, what)
 }
@@ -285,8 +266,7 @@ fn tainted_text(
 ) -> Result<(), OutOfMemory>
     ensures { IfOk result (λ _. out.new.items ≡ ended_text (Outcome.TaintedRead tick pc addr) out.old.items) }
 {
-    text(out, b"tainted tick ")?;
-    decimal(alloc, out, tick as u64)?;
+    number_text(alloc, out, b"tainted tick ", tick as u64)?;
     address_text(out, pc, addr)?;
     Ok(())
 }
@@ -295,18 +275,8 @@ fn tainted_text(
 fn stack_text(alloc: Global, out: &mut Vec<u8>, tick: u32, sp: u32) -> Result<(), OutOfMemory>
     ensures { IfOk result (λ _. out.new.items ≡ ended_text (Outcome.StackSpent tick sp) out.old.items) }
 {
-    text(out, b"stack tick ")?;
-    decimal(alloc, out, tick as u64)?;
-    text(out, b" sp ")?;
-    hex8(out, sp)
-}
-
-/// Adds the tick at which the output was full.
-fn full_text(alloc: Global, out: &mut Vec<u8>, tick: u32) -> Result<(), OutOfMemory>
-    ensures { IfOk result (λ _. out.new.items ≡ ended_text (Outcome.OutputFull tick) out.old.items) }
-{
-    text(out, b"output tick ")?;
-    decimal(alloc, out, tick as u64)
+    number_text(alloc, out, b"stack tick ", tick as u64)?;
+    at_text(out, b" sp ", sp)
 }
 
 /// Adds how a run ended.
@@ -320,7 +290,7 @@ fn ended_text(alloc: Global, out: &mut Vec<u8>, outcome: Outcome) -> Result<(), 
         Outcome::HandlerBroken { tick, what } => handler_text(alloc, out, tick, what),
         Outcome::TaintedRead { tick, pc, addr } => tainted_text(alloc, out, tick, pc, addr),
         Outcome::StackSpent { tick, sp } => stack_text(alloc, out, tick, sp),
-        Outcome::OutputFull { tick } => full_text(alloc, out, tick),
+        Outcome::OutputFull { tick } => number_text(alloc, out, b"output tick ", tick as u64),
         Outcome::OutOfTicks => text(out, b"ticks"),
     }
 }

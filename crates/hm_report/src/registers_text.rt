@@ -4,6 +4,7 @@ ghost use Rattle.std.specs.Prelude.{◌≡◌, ◌+◌, ◌*◌, ◌<◌, ◌≤
 ghost use Rattle.hm_run.specs.Report.{low_lines, word_line, pointer_lines, position_line, flags_line, bit_line, system_line, state_lines, special_lines};
 ghost use Rattle.hm_run.specs.Report.{vector_words, vector_line, vector_lines, register_lines};
 
+use crate::outcome_text::number_text;
 use hm_base::OutOfMemory;
 use hm_regs::Regs;
 use hm_text_base::{binary_digit, decimal, hex2, hex8, separator, text};
@@ -16,8 +17,7 @@ fn low_lines(alloc: Global, out: &mut Vec<u8>, r: &[u32], count: usize) -> Resul
     ensures { IfOk result (λ _. out.new.items ≡ low_lines count r.now out.old.items) }
 {
     for k in 0..count {
-        text(out, b"r")?;
-        decimal(alloc, out, k as u64)?;
+        number_text(alloc, out, b"r", k as u64)?;
         separator(out)?;
         hex8(out, r[k])?;
         text(out, b"\n")?;
@@ -58,8 +58,7 @@ fn pointer_lines(out: &mut Vec<u8>, regs: &Regs) -> Result<(), OutOfMemory>
 fn position_line(alloc: Global, out: &mut Vec<u8>, position: Window) -> Result<(), OutOfMemory>
     ensures { IfOk result (λ _. out.new.items ≡ position_line position.a position.b out.old.items) }
 {
-    text(out, b"position ")?;
-    decimal(alloc, out, position.a as u64)?;
+    number_text(alloc, out, b"position ", position.a as u64)?;
     separator(out)?;
     decimal(alloc, out, position.b as u64)?;
     text(out, b"\n")
@@ -133,8 +132,7 @@ fn vector_line(alloc: Global, out: &mut Vec<u8>, k: usize, words: &[u32]) -> Res
     requires { 4 * k + 3 < length words.now }
     ensures { IfOk result (λ _. out.new.items ≡ vector_line k words.now out.old.items) }
 {
-    text(out, b"q")?;
-    decimal(alloc, out, k as u64)?;
+    number_text(alloc, out, b"q", k as u64)?;
     separator(out)?;
     vector_words(out, k, words)?;
     text(out, b"\n")

@@ -2,4 +2,4 @@ use Rattle.std.proofs.Common.{refl}
 use Rattle.hm_report.proofs.outcome_text.tainted_text.Goals as goal
 
 pub returns : goal.returns
-returns c = rw (c.in_ok-address_text.ensures, c.in_ok-decimal.ensures, c.in_ok-text.ensures) refl
+returns c = rw (c.in_ok-address_text.ensures, c.in_ok-number_text.ensures) refl
