@@ -1,6 +1,7 @@
 //! The lines of the registers.
 
-ghost use Rattle.std.specs.Prelude.{◌≡◌, ◌+◌, ◌*◌, ◌<◌, ◌≤◌, length, IfOk};
+ghost use Rattle.std.specs.Prelude.{◌≡◌, ◌+◌, ◌*◌, ◌<◌, ◌≤◌, ◌++◌, length, IfOk};
+ghost use Rattle.hm_text_base.specs.Texts.{hex8, separator};
 ghost use Rattle.hm_run.specs.Report.{low_lines, word_line, pointer_lines, position_line, flags_line, bit_line, system_line, state_lines, special_lines};
 ghost use Rattle.hm_run.specs.Report.{vector_words, vector_line, vector_lines, register_lines};
 
@@ -11,6 +12,14 @@ use hm_text_base::{binary_digit, decimal, hex2, hex8, separator, text};
 use hm_window::Window;
 use std::alloc::Global;
 
+/// Adds a word behind a separator.
+fn next_word(out: &mut Vec<u8>, x: u32) -> Result<(), OutOfMemory>
+    ensures { IfOk result (λ _. out.new.items ≡ out.old.items ++ separator ++ hex8 x) }
+{
+    separator(out)?;
+    hex8(out, x)
+}
+
 /// Adds the lines of the first `count` of r0 to r12.
 fn low_lines(alloc: Global, out: &mut Vec<u8>, r: &[u32], count: usize) -> Result<(), OutOfMemory>
     requires { count ≤ length r.now }
@@ -18,8 +27,7 @@ fn low_lines(alloc: Global, out: &mut Vec<u8>, r: &[u32], count: usize) -> Resul
 {
     for k in 0..count {
         number_text(alloc, out, b"r", k as u64)?;
-        separator(out)?;
-        hex8(out, r[k])?;
+        next_word(out, r[k])?;
         text(out, b"\n")?;
     }
     Ok(())
@@ -30,8 +38,7 @@ fn word_line(out: &mut Vec<u8>, name: &[u8], x: u32) -> Result<(), OutOfMemory>
     ensures { IfOk result (λ _. out.new.items ≡ word_line name.now x out.old.items) }
 {
     text(out, name)?;
-    separator(out)?;
-    hex8(out, x)?;
+    next_word(out, x)?;
     text(out, b"\n")
 }
 
@@ -83,8 +90,7 @@ fn system_line(out: &mut Vec<u8>, regs: &Regs) -> Result<(), OutOfMemory>
 {
     text(out, b"system ")?;
     hex8(out, regs.main_pointer())?;
-    separator(out)?;
-    hex8(out, regs.process_pointer())?;
+    next_word(out, regs.process_pointer())?;
     separator(out)?;
     binary_digit(out, regs.spsel)?;
     separator(out)?;
@@ -119,12 +125,9 @@ fn vector_words(out: &mut Vec<u8>, k: usize, words: &[u32]) -> Result<(), OutOfM
     ensures { IfOk result (λ _. out.new.items ≡ vector_words k words.now out.old.items) }
 {
     hex8(out, words[4 * k])?;
-    separator(out)?;
-    hex8(out, words[4 * k + 1])?;
-    separator(out)?;
-    hex8(out, words[4 * k + 2])?;
-    separator(out)?;
-    hex8(out, words[4 * k + 3])
+    next_word(out, words[4 * k + 1])?;
+    next_word(out, words[4 * k + 2])?;
+    next_word(out, words[4 * k + 3])
 }
 
 /// Adds the line of vector register k.
