@@ -1,11 +1,8 @@
 pub mod Services
-pub mod Rows
 pub mod Steps
 pub mod Youngers
-pub mod Halves
 pub mod Keeping
 pub mod Letters
 pub mod Nestings
 pub mod Trials
 pub mod Going
-pub mod Known

@@ -8,7 +8,7 @@ ghost use Rattle.std.specs.Vec.{vec_capacity};
 ghost use Rattle.hm_codes.specs.Listing.{Listing, IsListing};
 ghost use Rattle.hm_exec.specs.Families.{row_of};
 ghost use Rattle.hm_cpu.specs.Cpus.{config_of, state_in, executed, reached, CountsOne, IsPosition, Keeps};
-ghost use Rattle.hm_cpu.specs.Decodings.{instr_of};
+ghost use Rattle.hm_recent.specs.Decodings.{instr_of};
 ghost use Rattle.hm_mem.specs.Memory.{Around, Memory, memory_of, flash_at};
 ghost use Rattle.hm_mem.specs.Seen.{IsSameElsewhere};
 ghost use Rattle.hm_order.specs.Machine.{begin, older, settle};
@@ -22,8 +22,6 @@ ghost use Rattle.hm_thumb.specs.Families.{is_vector_row};
 ghost use Rattle.hm_thumb.specs.Rows.{made};
 ghost use Rattle.hm_whole.specs.Whole.{executed as executed_by, scalar_in_machine};
 
-use crate::decoded::Decoded;
-use crate::recent::Slot;
 use crate::service::breakpoint;
 use hm_base::Stop;
 use hm_beat::BeatWise;
@@ -32,6 +30,7 @@ use hm_exec::{Any, refuse};
 use hm_isa::{Flow, Instr, Scalar};
 use hm_lane::context;
 use hm_mem::Mem;
+use hm_recent::Decoded;
 use hm_regs::Regs;
 use hm_run::Cause;
 use hm_window::Window;
@@ -242,18 +241,5 @@ pub fn thread_step(i: &Decoded, x: &mut Cpu) -> Result<(), Cause>
     match i {
         Decoded::Whole(i) => other_step(&i.instr, x),
         Decoded::Beats(v) => vector_step(v, x),
-    }
-}
-
-/// The vector instruction that stands at an address, where one does.
-pub fn vector_at(recent: &mut [Slot], mem: &Mem, addr: u32) -> Option<Any>
-    requires some { 0 < length recent.old }
-    ensures row { (listing : Listing) → IsListing (flash_at (memory_of mem.now)) listing → option_map row_of result ≡ vector_of (listing addr) }
-    ensures room { IsSome result → addr + 4 < 2 ^ 32 }
-    ensures places { length recent.new ≡ length recent.old }
-{
-    match Slot::keep(recent, mem, addr) {
-        Ok(()) => Slot::kept(recent, addr).as_vector(),
-        Err(_) => None,
     }
 }

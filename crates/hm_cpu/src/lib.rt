@@ -2,8 +2,6 @@
 #![tactic(auto)]
 
 mod cpu;
-mod decoded;
-mod recent;
 mod running;
 mod service;
 mod step_ends;
@@ -11,7 +9,6 @@ mod trial;
 mod younger;
 
 pub use cpu::Cpu;
-pub use recent::Slot;
 pub use running::letter;
 pub use service::OUTPUT;
 pub use step_ends::{LetterEnd, StepEnd};

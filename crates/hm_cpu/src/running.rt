@@ -8,7 +8,7 @@ ghost use Rattle.std.specs.Vec.{vec_capacity};
 ghost use Rattle.hm_codes.specs.Listing.{IsFetched, IsListing, Listing, Stands};
 ghost use Rattle.hm_cpu.specs.Cpus.{config_of, nested_of, returns, state_in, stepped, AreEntered, CountsOne, IsHandler, IsPosition, IsSoundUnderSome};
 ghost use Rattle.hm_cpu.specs.Cpus.{interrupted_of, LeavesTheRest, IsSoundUnder, IsThread, IsUnder, KeepsFlash};
-ghost use Rattle.hm_cpu.specs.Decodings.{instr_of};
+ghost use Rattle.hm_recent.specs.Decodings.{instr_of};
 ghost use Rattle.hm_exc.specs.Entry.{newest_first};
 ghost use Rattle.hm_exc.specs.declared.types.Activation.{Activation};
 ghost use Rattle.hm_exec.specs.Families.{row_of};
@@ -21,14 +21,13 @@ ghost use Rattle.hm_state.specs.State.{State};
 ghost use Rattle.hm_thumb.specs.Families.{is_vector_row};
 
 use crate::cpu::{Cpu, execute, other_step, thread_step, vector_step};
-use crate::decoded::{Decoded, Whole};
-use crate::recent::Slot;
 use crate::step_ends::{LetterEnd, StepEnd};
 use crate::younger::younger;
 use hm_base::{Fault, Stop};
 use hm_exc::leave;
 use hm_exec::Any;
 use hm_isa::{Flow, Instr};
+use hm_recent::{Cached, Decoded, Whole, keep, kept};
 use hm_run::{Cause, Offence};
 use hm_window::Window;
 
@@ -179,7 +178,7 @@ fn none_stands(fault: Fault, x: &Cpu) -> LetterEnd
 
 /// A step of the older instruction of what runs, or the fault where none stands at the program counter.
 #[inline(always)]
-fn older_step(recent: &mut [Slot], x: &mut Cpu) -> Result<(), LetterEnd>
+fn older_step(recent: &mut [Cached], x: &mut Cpu) -> Result<(), LetterEnd>
     requires some { 0 < length recent.old }
     requires count { (x.old.retired < 2 ^ 63) × (x.old.older_steps < 2 ^ 63) }
     requires position { IsPosition x.old }
@@ -193,15 +192,15 @@ fn older_step(recent: &mut [Slot], x: &mut Cpu) -> Result<(), LetterEnd>
     ensures count { CountsOne x.old x.new }
     ensures places { length recent.new ≡ length recent.old }
 {
-    if let Err(fault) = Slot::keep(recent, &x.mem, x.regs.pc) {
+    if let Err(fault) = keep(recent, &x.mem, x.regs.pc) {
         return Err(none_stands(fault, x));
     }
-    step_of(Slot::kept(recent, x.regs.pc), x)
+    step_of(kept(recent, x.regs.pc), x)
 }
 
 /// A step of the younger instruction of what runs.
 #[inline(never)]
-fn younger_step(recent: &mut [Slot], x: &mut Cpu) -> Result<(), LetterEnd>
+fn younger_step(recent: &mut [Cached], x: &mut Cpu) -> Result<(), LetterEnd>
     requires some { 0 < length recent.old }
     requires position { IsPosition x.old }
     ensures value { (listing : Listing) (s : Sched) → IsListing (flash_at (memory_of x.old.mem)) listing → IsSoundUnder s x.old
@@ -312,7 +311,7 @@ fn rest_of(i: &Decoded, x: &mut Cpu) -> Result<(), LetterEnd>
 
 /// The older instruction of what runs to its end, in at most four steps, or the fault where none stands at the program counter.
 #[inline(always)]
-fn whole(recent: &mut [Slot], x: &mut Cpu) -> Result<(), LetterEnd>
+fn whole(recent: &mut [Cached], x: &mut Cpu) -> Result<(), LetterEnd>
     requires some { 0 < length recent.old }
     requires count { (x.old.retired < 2 ^ 61) × (x.old.older_steps < 2 ^ 61) }
     requires position { IsPosition x.old }
@@ -326,10 +325,10 @@ fn whole(recent: &mut [Slot], x: &mut Cpu) -> Result<(), LetterEnd>
     ensures count { (x.new.retired ≤ x.old.retired + 4) × (x.new.older_steps ≤ x.old.older_steps + 4) }
     ensures places { length recent.new ≡ length recent.old }
 {
-    if let Err(fault) = Slot::keep(recent, &x.mem, x.regs.pc) {
+    if let Err(fault) = keep(recent, &x.mem, x.regs.pc) {
         return Err(none_stands(fault, x));
     }
-    rest_of(Slot::kept(recent, x.regs.pc), x)
+    rest_of(kept(recent, x.regs.pc), x)
 }
 
 /// What a letter of a schedule does, of the thread or of the newest handler: `O` is a step of the older instruction, its next beat or the whole
@@ -339,7 +338,7 @@ fn whole(recent: &mut [Slot], x: &mut Cpu) -> Result<(), LetterEnd>
 /// Err tells why it does not go on; the machine then stands as that step left it. Of the thread's instructions alone it is counted how many
 /// were retired and how many steps were done, in `x.retired` and `x.older_steps`. What is decoded is kept in `recent`, on which nothing depends.
 #[inline(always)]
-pub fn letter(l: u8, recent: &mut [Slot], x: &mut Cpu) -> Result<(), LetterEnd>
+pub fn letter(l: u8, recent: &mut [Cached], x: &mut Cpu) -> Result<(), LetterEnd>
     requires some { 0 < length recent.old }
     requires count { (x.old.retired < 2 ^ 61) × (x.old.older_steps < 2 ^ 61) }
     requires position { IsPosition x.old }

@@ -11,11 +11,11 @@ ghost use Rattle.hm_run.specs.Program.{core, fault_rule, rows, step_rule};
 ghost use Rattle.hm_window.specs.Overlap.{first_rule};
 ghost use Rattle.hm_state.specs.State.{State, state_of};
 
-use crate::cpu::{Cpu, beat, vector_at};
-use crate::recent::Slot;
+use crate::cpu::{Cpu, beat};
 use crate::step_ends::StepEnd;
 use hm_base::Stop;
 use hm_exec::{Any, refuse};
+use hm_recent::{Cached, vector_at};
 use hm_regs::Regs;
 use hm_run::Cause;
 use hm_window::{Rule, Window, first_rule};
@@ -80,7 +80,7 @@ fn younger_beat(w: &Any, x: &mut Cpu) -> Result<(), StepEnd>
 }
 
 /// The next beat of the younger instruction, unless it breaks a rule.
-pub fn younger(recent: &mut [Slot], x: &mut Cpu) -> Result<(), StepEnd>
+pub fn younger(recent: &mut [Cached], x: &mut Cpu) -> Result<(), StepEnd>
     requires some { 0 < length recent.old }
     requires position { IsPosition x.old }
     ensures value { (listing : Listing) → IsListing (flash_at (memory_of x.old.mem)) listing

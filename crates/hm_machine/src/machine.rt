@@ -28,11 +28,12 @@ use crate::memory_text::memory_text;
 use crate::start::Start;
 use crate::tick::tick;
 use hm_base::{Image, OutOfMemory, SRAM_START};
-use hm_cpu::{Cpu, OUTPUT, Slot, ready};
+use hm_cpu::{Cpu, OUTPUT, ready};
 use hm_decode::fetch;
 use hm_exc::{Activation, Acts};
 use hm_isa::Instr;
 use hm_mem::{Mem, Still};
+use hm_recent::Cached;
 use hm_regs::Regs;
 use hm_run::{Outcome, Turn};
 use hm_sched::{Line, Schedule};
@@ -235,7 +236,7 @@ impl Machine {
 
     /// Does one tick of a run that goes on, with what it decoded of late.
     #[inline(always)]
-    fn advance(&mut self, recent: &mut [Slot])
+    fn advance(&mut self, recent: &mut [Cached])
         requires some { 0 < length recent.old }
         requires running { self.old.outcome ≡ None }
         requires lines { 0 < length self.old.schedule.lines }
@@ -276,7 +277,7 @@ impl Machine {
 
     /// Does one tick. An ended machine answers the same again and changes nothing. `recent` has what the run decoded of late, on which nothing depends.
     #[inline(always)]
-    fn tick_with(&mut self, recent: &mut [Slot]) -> Turn
+    fn tick_with(&mut self, recent: &mut [Cached]) -> Turn
         requires some { 0 < length recent.old }
         ensures shows { (image : List Segment) (s : Sched) (t : ℕ) → Shows image s t self.old → Shows image s (suc t) self.new }
         ensures ended { IsSome self.old.outcome → self.new ≡ self.old }
@@ -323,11 +324,11 @@ impl Machine {
         ensures taint { (image : List Segment) (s : Sched) (t : ℕ) (listing : Listing) → IsListing (flash_byte image) listing → Shows image s t self.old
             → TaintLies s (run listing image s (suc t)).entries (timed_of self.new).config.state }
     {
-        self.tick_with(&mut [Slot::EMPTY])
+        self.tick_with(&mut [Cached::EMPTY])
     }
 
     /// Does so many ticks, with what was decoded of late.
-    fn pass_with(&mut self, count: u32, recent: &mut [Slot])
+    fn pass_with(&mut self, count: u32, recent: &mut [Cached])
         requires some { 0 < length recent.old }
         ensures shows { (image : List Segment) (s : Sched) (t : ℕ) → Shows image s t self.old → Shows image s (t + count) self.new }
         ensures fixed { fixed_of self.new ≡ fixed_of self.old }
@@ -344,7 +345,7 @@ impl Machine {
         ensures shows { (image : List Segment) (s : Sched) (t : ℕ) → Shows image s t self.old → Shows image s (t + count) self.new }
         ensures fixed { fixed_of self.new ≡ fixed_of self.old }
     {
-        self.pass_with(count, &mut [Slot::EMPTY; PLACES]);
+        self.pass_with(count, &mut [Cached::EMPTY; PLACES]);
     }
 
     /// Does so many ticks; of a run that has ended, none. It takes no memory.
@@ -356,7 +357,7 @@ impl Machine {
     {
         // to make a table takes as long as some fifty ticks
         if count < 64 {
-            self.pass_with(count, &mut [Slot::EMPTY]);
+            self.pass_with(count, &mut [Cached::EMPTY]);
         } else {
             self.pass_with_table(count);
         }
@@ -400,7 +401,7 @@ impl Machine {
             letters,
             &[0; 8],
             false,
-            &mut [Slot::EMPTY],
+            &mut [Cached::EMPTY],
             &mut self.cpu,
         ) {
             Err(outcome) => {
@@ -448,7 +449,7 @@ impl Machine {
         ensures taint { (image : List Segment) (s : Sched) (t : ℕ) (listing : Listing) → IsListing (flash_byte image) listing → Shows image s t self.old
             → TaintLies s (run_out listing image s).entries (timed_of self.new).config.state }
     {
-        let mut recent = [Slot::EMPTY; PLACES];
+        let mut recent = [Cached::EMPTY; PLACES];
         while self.is_running() {
             let _turn = self.tick_with(&mut recent);
         }

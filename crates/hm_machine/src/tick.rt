@@ -18,15 +18,16 @@ ghost use Rattle.hm_sched.specs.Schedule.{Sched, TickLine, younger_letter};
 
 use crate::conclusion::{EarlyEnd, conclude};
 use crate::entry::enter_picked;
-use hm_cpu::{Cpu, Slot, letter};
+use hm_cpu::{Cpu, letter};
 use hm_mem::{Dev, Mem};
+use hm_recent::Cached;
 use hm_run::Outcome;
 use hm_sys::{arrive_all, count};
 use hm_window::ending;
 
 /// What a letter of a schedule does, the `step`-th of its tick.
 #[inline(always)]
-fn letter_at(step: u32, l: u8, recent: &mut [Slot], x: &mut Cpu) -> Result<(), EarlyEnd>
+fn letter_at(step: u32, l: u8, recent: &mut [Cached], x: &mut Cpu) -> Result<(), EarlyEnd>
     requires some { 0 < length recent.old }
     requires count { (x.old.retired < 2 ^ 61) × (x.old.older_steps < 2 ^ 61) }
     requires position { IsPosition x.old }
@@ -52,7 +53,7 @@ fn letter_at(step: u32, l: u8, recent: &mut [Slot], x: &mut Cpu) -> Result<(), E
 
 /// The letters of a tick, one after another: as bytes, eight at most.
 #[inline(always)]
-fn letters(steps: &[u8], recent: &mut [Slot], x: &mut Cpu) -> Result<(), EarlyEnd>
+fn letters(steps: &[u8], recent: &mut [Cached], x: &mut Cpu) -> Result<(), EarlyEnd>
     requires some { 0 < length recent.old }
     requires few { length steps.now ≤ 8 }
     requires count { (x.old.retired < 2 ^ 60) × (x.old.older_steps < 2 ^ 60) }
@@ -127,7 +128,7 @@ pub fn tick(
     steps: &[u8],
     irq: &[u32; 8],
     entries: bool,
-    recent: &mut [Slot],
+    recent: &mut [Cached],
     x: &mut Cpu,
 ) -> Result<bool, Outcome>
     requires some { 0 < length recent.old }

@@ -2,7 +2,7 @@ use Rattle.std.proofs.Common.{◌+◌, ◌-◌, ◌<◌, arith, sym, subst, Ok, 
 use Rattle.arrayvec.specs.ArrayVec.{ArrayVec, array_vec_len}
 use Rattle.hm_exc.specs.declared.types.Activation.{Activation}
 use Rattle.hm_cpu.proofs.Going.{all_done, all_left, ends_there, handler_goes, one_less}
-use Rattle.hm_cpu.specs.Decodings.{instr_of}
+use Rattle.hm_recent.specs.Decodings.{instr_of}
 use Rattle.hm_cpu.proofs.running.handler_rest.Goals as goal
 
 pub loop-k-init : goal.loop-k-init

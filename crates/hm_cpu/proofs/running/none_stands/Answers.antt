@@ -1,6 +1,6 @@
 use Rattle.std.proofs.Common.{ap, ◌∙◌, Err}
 use Rattle.hm_cpu.proofs.Nestings.{none_steps, sound_under}
-use Rattle.hm_cpu.proofs.Rows.{listed_here}
+use Rattle.hm_recent.proofs.Rows.{listed_here}
 use Rattle.hm_cpu.specs.Cpus.{stepped}
 use Rattle.hm_cpu.specs.declared.step_ends.LetterEnd.{LetterEnd}
 use Rattle.hm_mem.specs.Memory.{memory_of, flash_at}

@@ -1,4 +1,4 @@
-use Rattle.hm_cpu.proofs.Known.{kept_stands}
+use Rattle.hm_recent.proofs.Known.{kept_stands}
 use Rattle.hm_mem.specs.Memory.{memory_of, flash_at}
 use Rattle.hm_cpu.proofs.running.older_step.Goals as goal
 

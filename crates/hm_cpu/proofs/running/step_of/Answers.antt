@@ -3,7 +3,7 @@ use Rattle.hm_cpu.proofs.Going.{handler_goes, thread_goes}
 use Rattle.hm_cpu.proofs.Keeping.{keeps_moves}
 use Rattle.hm_cpu.proofs.Nestings.{is_none, step_stays}
 use Rattle.hm_cpu.specs.Cpus.{stepped}
-use Rattle.hm_cpu.specs.Decodings.{instr_of}
+use Rattle.hm_recent.specs.Decodings.{instr_of}
 use Rattle.hm_cpu.specs.declared.step_ends.LetterEnd.{LetterEnd}
 use Rattle.hm_order.specs.InFlight.{Older}
 use Rattle.hm_cpu.proofs.running.step_of.Goals as goal

@@ -3,11 +3,11 @@ use Rattle.hm_base.specs.declared.Fault.{Fault}
 use Rattle.hm_handlers.specs.Nested.{steps}
 use Rattle.hm_isa.specs.declared.Instr.{Instr}
 use Rattle.hm_cpu.proofs.Letters.{one_step}
-use Rattle.hm_cpu.proofs.Rows.{listed_here}
+use Rattle.hm_recent.proofs.Rows.{listed_here}
 use Rattle.hm_cpu.specs.Cpus.{nested_of}
 use Rattle.hm_run.specs.Program.{steps_left, vector_of}
 use Rattle.hm_state.specs.State.{state_of}
-use Rattle.hm_cpu.proofs.Known.{kept_stands}
+use Rattle.hm_recent.proofs.Known.{kept_stands}
 use Rattle.hm_mem.specs.Memory.{memory_of, flash_at}
 use Rattle.hm_cpu.proofs.running.whole.Goals as goal
 

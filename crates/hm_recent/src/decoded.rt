@@ -24,7 +24,7 @@ pub enum Decoded {
 }
 
 impl Decoded {
-    ghost use Rattle.hm_cpu.specs.Decodings.{instr_of};
+    ghost use Rattle.hm_recent.specs.Decodings.{instr_of};
     ghost use Rattle.hm_run.specs.Program.{steps_left, vector_in};
 
     /// This instruction as it is executed.

@@ -2,8 +2,8 @@
 use Rattle.hm_exec.specs.Families.{row_of}
 use Rattle.hm_isa.specs.declared.Instr.{Instr}
 use Rattle.hm_isa.specs.declared.Instr.TheVariants as instr
-use Rattle.hm_cpu.specs.declared.decoded.Decoded.{Decoded}
-use Rattle.hm_cpu.specs.declared.decoded.Decoded.TheVariants.{Whole, Beats}
+use Rattle.hm_recent.specs.declared.decoded.Decoded.{Decoded}
+use Rattle.hm_recent.specs.declared.decoded.Decoded.TheVariants.{Whole, Beats}
 
 -- the instruction that was decoded
 abbrev pub instr_of : Decoded → Instr

@@ -1,10 +1,10 @@
 use Rattle.std.proofs.Common.{ap, sym, ◌∙◌, Ok, Err}
 use Rattle.hm_mem.specs.Memory.{memory_of, flash_at}
 use Rattle.hm_run.specs.Program.{vector_of}
-use Rattle.hm_cpu.proofs.Known.{kept_stands}
-use Rattle.hm_cpu.proofs.Rows.{listed_here}
-use Rattle.hm_cpu.specs.Decodings.{instr_of}
-use Rattle.hm_cpu.proofs.cpu.vector_at.Goals as goal
+use Rattle.hm_recent.proofs.Known.{kept_stands}
+use Rattle.hm_recent.proofs.Rows.{listed_here}
+use Rattle.hm_recent.specs.Decodings.{instr_of}
+use Rattle.hm_recent.proofs.table.vector_at.Goals as goal
 
 pub returns-in-Ok-clause-row : goal.returns-in-Ok-clause-row
 returns-in-Ok-clause-row c listing is =

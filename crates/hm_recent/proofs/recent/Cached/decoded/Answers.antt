@@ -2,9 +2,9 @@ use Rattle.std.proofs.Common.{ℕ, ap, refl, sym, ◌∙◌, subst, [], ◌∷�
 use Rattle.hm_codes.specs.Listing.{HalvesStand, Stands}
 use Rattle.hm_isa.specs.Code.{halfwords}
 use Rattle.hm_isa.specs.declared.Instr.{Instr}
-use Rattle.hm_cpu.proofs.Halves.{stands_coded}
+use Rattle.hm_recent.proofs.Halves.{stands_coded}
 use Rattle.hm_mem.specs.Memory.{memory_of, flash_at}
-use Rattle.hm_cpu.proofs.recent.Slot.decoded.Goals as goal
+use Rattle.hm_recent.proofs.recent.Cached.decoded.Goals as goal
 
 -- the halfwords are those of what was decoded
 pub invariant_of-result : goal.invariant_of-result

@@ -1,7 +1,7 @@
 use Rattle.std.proofs.Common.{◌≡◌, arith, ap, ◌∙◌, Some}
 use Rattle.std.proofs.lemmas.Bool.Decides.{nat_tests}
-use Rattle.hm_cpu.specs.Kept.{entry_in}
-use Rattle.hm_cpu.proofs.recent.Slot.holds.Goals as goal
+use Rattle.hm_recent.specs.Kept.{entry_in}
+use Rattle.hm_recent.proofs.recent.Cached.holds.Goals as goal
 
 pub returns-then-kept-here : goal.returns-then-kept-here
 returns-then-kept-here c = record {

@@ -5,7 +5,7 @@ use Rattle.std.proofs.lemmas.Bool.Decides.{nat_tests}
 use Rattle.hm_base.specs.Image.{flash_size}
 use Rattle.hm_codes.proofs.Unique.{one_half, two_halves}
 use Rattle.hm_codes.specs.Listing.{HalvesStand, Stands, half_at, is_long}
-use Rattle.hm_cpu.specs.Halves.{code_of}
+use Rattle.hm_recent.specs.Halves.{code_of}
 use Rattle.hm_isa.specs.Code.{halfwords}
 use Rattle.hm_isa.specs.declared.Instr.{Instr}
 use Rattle.hm_mem.specs.Memory.{Memory, flash_at, half_told}

@@ -2,20 +2,20 @@ use Rattle.std.proofs.Common.{◌≡◌, ℕ, ◌%◌, refl, ap, sym, ◌∙◌,
 use Rattle.std.proofs.lemmas.Grind.{get_or-set_at}
 use Rattle.std.proofs.lemmas.List.{get_or_default, length-set}
 use Rattle.hm_codes.specs.Listing.{HalvesStand}
-use Rattle.hm_cpu.proofs.Halves.{coded_stands}
-use Rattle.hm_cpu.specs.Decodings.{instr_of}
-use Rattle.hm_cpu.specs.Kept.{instr_in}
-use Rattle.hm_cpu.specs.Slots.{place_of}
-use Rattle.hm_cpu.specs.declared.recent.Slot.{Slot}
+use Rattle.hm_recent.proofs.Halves.{coded_stands}
+use Rattle.hm_recent.specs.Decodings.{instr_of}
+use Rattle.hm_recent.specs.Kept.{instr_in}
+use Rattle.hm_recent.specs.Slots.{place_of}
+use Rattle.hm_recent.specs.declared.recent.Cached.{Cached}
 use Rattle.hm_mem.specs.Memory.{memory_of, flash_at}
-use Rattle.hm_cpu.proofs.recent.Slot.keep.Goals as goal
+use Rattle.hm_recent.proofs.table.keep.Goals as goal
 
 -- what is kept is known by its halfwords
 pub returns-then-holds-clause-kept : goal.returns-then-holds-clause-kept
 returns-then-holds-clause-kept c =
     let flash = flash_at (memory_of c.args.m.now) in
     let recent = c.args.recent.now in
-    let empty : Slot = record { entry = None } in
+    let empty : Cached = record { entry = None } in
     let known = c.if-holds.ensures.code refl in
     let h = known.1 in
     let is = known.3 in (

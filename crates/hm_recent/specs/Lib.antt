@@ -1,0 +1,4 @@
+pub mod Halves
+pub mod Decodings
+pub mod Slots
+pub mod Kept
