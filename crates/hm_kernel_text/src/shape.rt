@@ -54,21 +54,21 @@ fn is_leaf(word: &[u8]) -> bool
 }
 
 /// Opens an operation by its word.
-fn open_one(open: &mut Vec<Side>, word: &[u8]) -> Result<Place, OutOfMemory>
-    ensures place { IfOk result (λ p. open_shape (reverse open.old.items) word.now ≡ place_of p (reverse open.new.items)) }
+fn open_one(awaited: &mut Vec<Side>, word: &[u8]) -> Result<Place, OutOfMemory>
+    ensures place { IfOk result (λ p. open_shape (reverse awaited.old.items) word.now ≡ place_of p (reverse awaited.new.items)) }
 {
     if read_op(word).is_none() {
         return Ok(Place::Wrong);
     }
-    open.push(Side::First)?;
+    awaited.push(Side::First)?;
     Ok(Place::Inside)
 }
 
 /// Closes the innermost operation. The answer is whether there is one whose second argument was awaited.
-fn close_one(open: &mut Vec<Side>) -> bool
-    ensures closed { close_side (reverse open.old.items) ≡ (if result then Some (reverse open.new.items) else None) }
+fn close_one(awaited: &mut Vec<Side>) -> bool
+    ensures closed { close_side (reverse awaited.old.items) ≡ (if result then Some (reverse awaited.new.items) else None) }
 {
-    match open.pop() {
+    match awaited.pop() {
         Some(Side::Second) => true,
         Some(Side::First) => false,
         None => false,
@@ -76,14 +76,14 @@ fn close_one(open: &mut Vec<Side>) -> bool
 }
 
 /// Closes an operation for each bracket. The answer is whether there are nothing but brackets, each of which closes one.
-fn close_all(open: &mut Vec<Side>, brackets: &[u8]) -> bool
-    ensures closed { closed_sides (reverse open.old.items) brackets.now ≡ (if result then Some (reverse open.new.items) else None) }
+fn close_all(awaited: &mut Vec<Side>, brackets: &[u8]) -> bool
+    ensures closed { closed_sides (reverse awaited.old.items) brackets.now ≡ (if result then Some (reverse awaited.new.items) else None) }
 {
     for bracket in brackets {
         if *bracket != b')' {
             return false;
         }
-        if !close_one(open) {
+        if !close_one(awaited) {
             return false;
         }
     }
@@ -91,13 +91,13 @@ fn close_all(open: &mut Vec<Side>, brackets: &[u8]) -> bool
 }
 
 /// Goes on behind an argument that no bracket follows.
-fn stand(open: &mut Vec<Side>) -> Result<Place, OutOfMemory>
-    ensures place { IfOk result (λ p. stands_side (reverse open.old.items) ≡ place_of p (reverse open.new.items)) }
+fn stand(awaited: &mut Vec<Side>) -> Result<Place, OutOfMemory>
+    ensures place { IfOk result (λ p. stands_side (reverse awaited.old.items) ≡ place_of p (reverse awaited.new.items)) }
 {
-    match open.pop() {
+    match awaited.pop() {
         None => Ok(Place::End),
         Some(Side::First) => {
-            open.push(Side::Second)?;
+            awaited.push(Side::Second)?;
             Ok(Place::Inside)
         }
         Some(Side::Second) => Ok(Place::Wrong),
@@ -106,33 +106,33 @@ fn stand(open: &mut Vec<Side>) -> Result<Place, OutOfMemory>
 
 /// Goes on behind a word.
 #[tactic(auto, unfolding(crate::specs::Shapes::shape_in))]
-fn take_word(open: &mut Vec<Side>, word: &[u8]) -> Result<Place, OutOfMemory>
-    ensures place { IfOk result (λ p. shape_in (reverse open.old.items) word.now ≡ place_of p (reverse open.new.items)) }
+fn take_word(awaited: &mut Vec<Side>, word: &[u8]) -> Result<Place, OutOfMemory>
+    ensures place { IfOk result (λ p. shape_in (reverse awaited.old.items) word.now ≡ place_of p (reverse awaited.new.items)) }
 {
     if opens(word) {
-        return open_one(open, &word[1..]);
+        return open_one(awaited, &word[1..]);
     }
     let (leaf, brackets) = span(b')', word);
     if !is_leaf(leaf) {
         return Ok(Place::Wrong);
     }
-    if !close_all(open, brackets) {
+    if !close_all(awaited, brackets) {
         return Ok(Place::Wrong);
     }
-    stand(open)
+    stand(awaited)
 }
 
 /// How many names and numbers the expression has that the words behind a place are. None where they are no expression.
 pub fn count_leaves(alloc: Global, text: &[u8]) -> Result<Option<usize>, OutOfMemory>
     ensures value { IfOk result (λ n. n ≡ option_map leaves (tree_in (words_behind text.now))) }
 {
-    let mut open = Vec::new(alloc);
+    let mut awaited = Vec::new(alloc);
     let mut operations = 0;
     let mut rest = text;
     while !rest.is_empty() {
         let (word, after) = next_word(rest);
         operations = operations_behind(operations, word);
-        match take_word(&mut open, word)? {
+        match take_word(&mut awaited, word)? {
             Place::Wrong => return Ok(None),
             Place::End if after.is_empty() => return Ok(Some(operations + 1)),
             Place::End => return Ok(None),

@@ -34,12 +34,11 @@ fn next_line(bytes: &[u8], line: u32, kind: LineKind) -> Result<(&[u8], &[u8]), 
     ensures shorter { IfOk result (λ x. length x.1.now + 1 ≤ length bytes.now) }
 {
     if bytes.is_empty() {
-        return Err(SchedErr::Line { line, kind });
+        return Err(refused(line, kind));
     }
     let (text, from) = span(b'\n', bytes);
     if from.is_empty() {
-        let kind = LineKind::Newline;
-        return Err(SchedErr::Line { line, kind });
+        return Err(refused(line, LineKind::Newline));
     }
     Ok((text, &from[1..]))
 }
@@ -84,6 +83,7 @@ fn region_between(low: &[u8], high: &[u8]) -> Option<(u32, u32)>
     Some((lo, hi))
 }
 
+/// The region that a third line says, by its lowest address and the first one past it.
 #[tactic(auto, unfolding(crate::specs::ReadFile::region_in))]
 fn read_region(text: &[u8]) -> Option<(u32, u32)>
     ensures { result ≡ region_in text.now }
@@ -99,7 +99,7 @@ fn read_region(text: &[u8]) -> Option<(u32, u32)>
 }
 
 /// An address of eight digits, where it may be that of a floor.
-fn read_bounded(digits: &[u8]) -> Option<u32>
+fn read_floor_address(digits: &[u8]) -> Option<u32>
     ensures { result ≡ option_and_then bounded_floor (hex8_in digits.now) }
 {
     let floor = read_hex8(digits)?;
@@ -109,6 +109,7 @@ fn read_bounded(digits: &[u8]) -> Option<u32>
     Some(floor)
 }
 
+/// The floor of the main stack, which a fourth line says.
 #[tactic(auto, unfolding(crate::specs::ReadFile::floor_in))]
 fn read_floor(text: &[u8]) -> Option<u32>
     ensures { result ≡ floor_in text.now }
@@ -116,7 +117,7 @@ fn read_floor(text: &[u8]) -> Option<u32>
     if !text.starts_with(b"floor ") {
         return None;
     }
-    read_bounded(&text[6..])
+    read_floor_address(&text[6..])
 }
 
 /// The floor of the process stack, which a fifth line says.
@@ -127,7 +128,7 @@ fn read_process(text: &[u8]) -> Option<u32>
     if !text.starts_with(b"process ") {
         return None;
     }
-    read_bounded(&text[8..])
+    read_floor_address(&text[8..])
 }
 
 /// The floor of the process stack, and what follows its line: in format 1 it has none and is the floor of the main stack.
@@ -152,7 +153,7 @@ fn tick_line(most: u32, text: &[u8], line: u32) -> Result<Ticks<'_>, SchedErr>
 {
     match read_ticks(most, text) {
         Ok(ticks) => Ok(ticks),
-        Err(kind) => Err(SchedErr::Line { line, kind }),
+        Err(kind) => Err(refused(line, kind)),
     }
 }
 
@@ -177,6 +178,7 @@ fn with_lines(schedule: Schedule, bytes: &[u8]) -> Result<Schedule, SchedErr>
     Ok(schedule)
 }
 
+/// The schedule that a file writes: the lines of its head, each of which may be refused, and then its lines of ticks.
 #[tactic(auto, unfolding(crate::specs::ReadFile::file_in))]
 fn read_file(alloc: Global, bytes: &[u8]) -> Result<Schedule, SchedErr>
     ensures { Gives (λ s. s) result (file_in bytes.now) }

@@ -1,8 +1,8 @@
 //! The names of registers, halves of vector registers and conditions.
 
 ghost use Rattle.std.specs.Prelude.{◌≡◌, ◌<◌, ◌≤◌, ◌||◌, bytes_eq, codes, length, map, IfSome};
-ghost use Rattle.hm_tokens.specs.Names.{are_name_bytes, condition_in, condition_name, double_in, double_name, is_label_name, is_letter, is_name, is_number_given};
-ghost use Rattle.hm_tokens.specs.Names.{is_reserved, number_of, register_in, register_name, vector_in, vector_name};
+ghost use Rattle.hm_tokens.specs.Names.{are_name_bytes, condition_in, condition_name, double_in, double_name, is_label_name, is_letter, is_name};
+ghost use Rattle.hm_tokens.specs.Names.{is_number_given, is_reserved, number_of, register_in, register_name, vector_in, vector_name};
 
 /// The names of the core registers, in the order of their numbers.
 const REGISTERS: [&str; 16] = [
@@ -24,8 +24,8 @@ const CONDITIONS: [&str; 14] = [
     "eq", "ne", "cs", "cc", "mi", "pl", "vs", "vc", "hi", "ls", "ge", "lt", "gt", "le",
 ];
 
-/// Other words that stand where a condition or a register does.
-const SPECIALS: [&str; 3] = ["al", "zr", "apsr"];
+/// What stands where a condition or a register does, and is in no list of these.
+const OTHER_NAMES: [&str; 3] = ["al", "zr", "apsr"];
 
 /// The name of a core register: `r0` to `r12`, `sp`, `lr`, `pc`.
 pub fn register_name(n: u32) -> &'static str
@@ -148,11 +148,11 @@ fn is_among(names: &[&str], word: &[u8]) -> bool
     number_of(names, word).is_some()
 }
 
-/// Whether a word is another that stands where a condition or a register does.
-fn is_special(word: &[u8]) -> bool
+/// Whether a word is `al`, `zr` or `apsr`, which stand where a condition or a register does.
+fn is_other_name(word: &[u8]) -> bool
     ensures value { result ≡ (bytes_eq word.now (codes "al") || bytes_eq word.now (codes "zr") || bytes_eq word.now (codes "apsr")) }
 {
-    is_among(&SPECIALS, word)
+    is_among(&OTHER_NAMES, word)
 }
 
 /// Whether a name is that of a register or a condition.
@@ -163,7 +163,7 @@ fn is_reserved(name: &[u8]) -> bool
         || is_among(&VECTORS, name)
         || is_among(&CONDITIONS, name)
         || is_among(&DOUBLES, name)
-        || is_special(name)
+        || is_other_name(name)
 }
 
 /// Whether a label may have this name: a letter or `_`, then letters, digits and `_`, and not the name of a register (r0 to

@@ -12,6 +12,11 @@ use crate::token::Token;
 use arrayvec::{ArrayString, ArrayVec};
 use itoa::Buffer;
 
+/// The hexadecimal digits, in the order of their values.
+const HEX_DIGITS: [&str; 16] = [
+    "0", "1", "2", "3", "4", "5", "6", "7", "8", "9", "a", "b", "c", "d", "e", "f",
+];
+
 /// A word, a number or a mark of an instruction's text.
 #[derive(Clone, Copy)]
 pub enum Part {
@@ -154,11 +159,6 @@ fn push_space(out: &mut ArrayString<96>)
     let space = " ";
     out.push_str(space);
 }
-
-/// The hexadecimal digits, in the order of their values.
-const HEX_DIGITS: [&str; 16] = [
-    "0", "1", "2", "3", "4", "5", "6", "7", "8", "9", "a", "b", "c", "d", "e", "f",
-];
 
 /// A hexadecimal digit, of a number below 16.
 fn hex_digit(d: u32) -> &'static str

@@ -6,7 +6,7 @@ use Rattle.hm_kernel_text.proofs.shape.count_leaves.Given as goal
 
 abbrev pub invariant-loop-rest : goal.invariant-loop-rest
 invariant-loop-rest l = record {
-  so_far : leaves_from (reverse l.open.items) l.operations (words_behind l.rest) ≡ leaves_from [] 0 (words_behind l.text);
+  so_far : leaves_from (reverse l.awaited.items) l.operations (words_behind l.rest) ≡ leaves_from [] 0 (words_behind l.text);
   within : l.operations + length l.rest ≤ length l.text;
 }
 
