@@ -2,7 +2,7 @@
 use Rattle.std.specs.Prelude.{◌≡◌, ℕ, List, Option, Some, None, length, slice_index_or}
 use Rattle.hm_codes.specs.Listing.{Stands}
 use Rattle.hm_recent.specs.Decodings.{instr_of}
-use Rattle.hm_recent.specs.Slots.{place_of}
+use Rattle.hm_recent.specs.Places.{place_of}
 use Rattle.hm_recent.specs.declared.decoded.Decoded.{Decoded}
 use Rattle.hm_recent.specs.declared.recent.Entry.{Entry}
 use Rattle.hm_recent.specs.declared.recent.Cached.{Cached}

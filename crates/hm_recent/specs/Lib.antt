@@ -1,4 +1,4 @@
 pub mod Halves
 pub mod Decodings
-pub mod Slots
+pub mod Places
 pub mod Kept

@@ -60,7 +60,7 @@ impl Cached {
     #[cold]
     #[inline(never)]
     pub(crate) fn decoded(m: &Mem, addr: u32) -> Result<Cached, Fault>
-        ensures kept { IfOk result (λ slot. (d : Decoded) × (instr_in slot ≡ Some d) × Stands (flash_at (memory_of m.now)) addr (instr_of d)) }
+        ensures kept { IfOk result (λ cached. (d : Decoded) × (instr_in cached ≡ Some d) × Stands (flash_at (memory_of m.now)) addr (instr_of d)) }
         ensures fault { IfErr result (λ fault. IsFetched (flash_at (memory_of m.now)) addr (Err fault)) }
     {
         let halves = halves_at(m, addr);

@@ -5,7 +5,7 @@ ghost use Rattle.hm_codes.specs.Listing.{IsFetched, IsListing, Listing};
 ghost use Rattle.hm_exec.specs.Families.{row_of};
 ghost use Rattle.hm_mem.specs.Memory.{memory_of, flash_at};
 ghost use Rattle.hm_recent.specs.Kept.{kept_of, HasKept};
-ghost use Rattle.hm_recent.specs.Slots.{place_of};
+ghost use Rattle.hm_recent.specs.Places.{place_of};
 ghost use Rattle.hm_run.specs.Program.{vector_of};
 
 use crate::decoded::Decoded;

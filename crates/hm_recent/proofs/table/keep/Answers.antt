@@ -5,7 +5,7 @@ use Rattle.hm_codes.specs.Listing.{HalvesStand}
 use Rattle.hm_recent.proofs.Halves.{coded_stands}
 use Rattle.hm_recent.specs.Decodings.{instr_of}
 use Rattle.hm_recent.specs.Kept.{instr_in}
-use Rattle.hm_recent.specs.Slots.{place_of}
+use Rattle.hm_recent.specs.Places.{place_of}
 use Rattle.hm_recent.specs.declared.recent.Cached.{Cached}
 use Rattle.hm_mem.specs.Memory.{memory_of, flash_at}
 use Rattle.hm_recent.proofs.table.keep.Goals as goal
