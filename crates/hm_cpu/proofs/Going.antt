@@ -7,7 +7,7 @@ use Rattle.hm_isa.specs.declared.Instr.{Instr}
 use Rattle.hm_isa.specs.declared.Instr.TheVariants as instr
 use Rattle.hm_isa.specs.declared.Vector.{Vector}
 use Rattle.hm_cpu.proofs.Keeping.{listed_still, moved_flash, moves_then}
-use Rattle.hm_cpu.proofs.Letters.{one_step}
+use Rattle.hm_cpu.proofs.OneStep.{one_step}
 use Rattle.hm_cpu.proofs.Nestings.{lifted, none_active, sound_under, step_stays, thread_steps}
 use Rattle.hm_recent.proofs.Rows.{listed_here}
 use Rattle.hm_cpu.specs.Cpus.{CountsOne, IsPosition, IsSoundUnder, IsThread, IsUnder, LeavesTheRest, KeepsFlash, config_of, nested_of, reached, stepped}

@@ -2,6 +2,7 @@
 #![tactic(auto)]
 
 mod cpu;
+mod letters;
 mod running;
 mod service;
 mod step_ends;
@@ -9,7 +10,7 @@ mod trial;
 mod younger;
 
 pub use cpu::Cpu;
-pub use running::letter;
+pub use letters::{DecodedTable, LastDecoded, Letters};
 pub use service::OUTPUT;
 pub use step_ends::{LetterEnd, StepEnd};
 pub use trial::ready;

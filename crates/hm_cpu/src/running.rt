@@ -331,14 +331,9 @@ fn whole(recent: &mut [Cached], x: &mut Cpu) -> Result<(), LetterEnd>
     rest_of(kept(recent, x.regs.pc), x)
 }
 
-/// What a letter of a schedule does, of the thread or of the newest handler: `O` is a step of the older instruction, its next beat or the whole
-/// of one without beats, `Y` the next beat of the younger, and any other letter, as `W`, does the older to its end, in four steps at most
-/// (DDI0553, "Beat-wise execution" and "Exception return").
-///
-/// Err tells why it does not go on; the machine then stands as that step left it. Of the thread's instructions alone it is counted how many
-/// were retired and how many steps were done, in `x.retired` and `x.older_steps`. What is decoded is kept in `recent`, on which nothing depends.
+/// What a letter of a schedule does, as `Letters::letter` says it, with these places for what is decoded.
 #[inline(always)]
-pub fn letter(l: u8, recent: &mut [Cached], x: &mut Cpu) -> Result<(), LetterEnd>
+pub(crate) fn letter(l: u8, recent: &mut [Cached], x: &mut Cpu) -> Result<(), LetterEnd>
     requires some { 0 < length recent.old }
     requires count { (x.old.retired < 2 ^ 61) × (x.old.older_steps < 2 ^ 61) }
     requires position { IsPosition x.old }

@@ -28,21 +28,17 @@ use crate::memory_text::memory_text;
 use crate::start::Start;
 use crate::tick::tick;
 use hm_base::{Image, OutOfMemory, SRAM_START};
-use hm_cpu::{Cpu, OUTPUT, ready};
+use hm_cpu::{Cpu, DecodedTable, LastDecoded, Letters, OUTPUT, ready};
 use hm_decode::fetch;
 use hm_exc::{Activation, Acts};
 use hm_isa::Instr;
 use hm_mem::{Mem, Still};
-use hm_recent::Cached;
 use hm_regs::Regs;
 use hm_run::{Outcome, Turn};
 use hm_sched::{Line, Schedule};
 use hm_window::Window;
 use std::alloc::Global;
 use std::marker::Model;
-
-/// A run has a table of so many places for decoded instructions.
-const PLACES: usize = 1024;
 
 /// A machine in a run: an image in its memory, a schedule, and how far the run is.
 #[derive(Drop)]
@@ -236,8 +232,7 @@ impl Machine {
 
     /// Does one tick of a run that goes on, with what it decoded of late.
     #[inline(always)]
-    fn advance(&mut self, recent: &mut [Cached])
-        requires some { 0 < length recent.old }
+    fn advance<L: Letters>(&mut self, recent: &mut L)
         requires running { self.old.outcome ≡ None }
         requires lines { 0 < length self.old.schedule.lines }
         ensures next { (listing : Listing) (es : List Pointers) → IsListing (flash_at self.old.memory) listing
@@ -250,7 +245,6 @@ impl Machine {
         ensures flash { flash_at self.new.memory ≡ flash_at self.old.memory }
         ensures plan { self.new.schedule ≡ self.old.schedule }
         ensures fixed { fixed_of self.new ≡ fixed_of self.old }
-        ensures places { length recent.new ≡ length recent.old }
     {
         self.ticks += 1;
         let cursor = self.cursor;
@@ -277,8 +271,7 @@ impl Machine {
 
     /// Does one tick. An ended machine answers the same again and changes nothing. `recent` has what the run decoded of late, on which nothing depends.
     #[inline(always)]
-    fn tick_with(&mut self, recent: &mut [Cached]) -> Turn
-        requires some { 0 < length recent.old }
+    fn tick_with<L: Letters>(&mut self, recent: &mut L) -> Turn
         ensures shows { (image : List Segment) (s : Sched) (t : ℕ) → Shows image s t self.old → Shows image s (suc t) self.new }
         ensures ended { IsSome self.old.outcome → self.new ≡ self.old }
         ensures turn { result ≡ tick_answer self.new.outcome }
@@ -288,7 +281,6 @@ impl Machine {
         // Under one without lines, whose ticks were given one by one, the ticks are out.
         ensures out { self.old.outcome ≡ None → length self.old.schedule.lines ≡ 0 → self.new ≡ record self.old { outcome = Some Outcome.OutOfTicks } }
         ensures fixed { fixed_of self.new ≡ fixed_of self.old }
-        ensures places { length recent.new ≡ length recent.old }
     {
         if let Some(outcome) = self.outcome {
             return Turn::Ended(outcome);
@@ -324,15 +316,13 @@ impl Machine {
         ensures taint { (image : List Segment) (s : Sched) (t : ℕ) (listing : Listing) → IsListing (flash_byte image) listing → Shows image s t self.old
             → TaintLies s (run listing image s (suc t)).entries (timed_of self.new).config.state }
     {
-        self.tick_with(&mut [Cached::EMPTY])
+        self.tick_with(&mut LastDecoded::EMPTY)
     }
 
     /// Does so many ticks, with what was decoded of late.
-    fn pass_with(&mut self, count: u32, recent: &mut [Cached])
-        requires some { 0 < length recent.old }
+    fn pass_with<L: Letters>(&mut self, count: u32, recent: &mut L)
         ensures shows { (image : List Segment) (s : Sched) (t : ℕ) → Shows image s t self.old → Shows image s (t + count) self.new }
         ensures fixed { fixed_of self.new ≡ fixed_of self.old }
-        ensures places { length recent.new ≡ length recent.old }
     {
         for _k in 0..count {
             let _turn = self.tick_with(recent);
@@ -345,7 +335,7 @@ impl Machine {
         ensures shows { (image : List Segment) (s : Sched) (t : ℕ) → Shows image s t self.old → Shows image s (t + count) self.new }
         ensures fixed { fixed_of self.new ≡ fixed_of self.old }
     {
-        self.pass_with(count, &mut [Cached::EMPTY; PLACES]);
+        self.pass_with(count, &mut DecodedTable::EMPTY);
     }
 
     /// Does so many ticks; of a run that has ended, none. It takes no memory.
@@ -357,7 +347,7 @@ impl Machine {
     {
         // to make a table takes as long as some fifty ticks
         if count < 64 {
-            self.pass_with(count, &mut [Cached::EMPTY]);
+            self.pass_with(count, &mut LastDecoded::EMPTY);
         } else {
             self.pass_with_table(count);
         }
@@ -401,7 +391,7 @@ impl Machine {
             letters,
             &[0; 8],
             false,
-            &mut [Cached::EMPTY],
+            &mut LastDecoded::EMPTY,
             &mut self.cpu,
         ) {
             Err(outcome) => {
@@ -449,7 +439,7 @@ impl Machine {
         ensures taint { (image : List Segment) (s : Sched) (t : ℕ) (listing : Listing) → IsListing (flash_byte image) listing → Shows image s t self.old
             → TaintLies s (run_out listing image s).entries (timed_of self.new).config.state }
     {
-        let mut recent = [Cached::EMPTY; PLACES];
+        let mut recent = DecodedTable::EMPTY;
         while self.is_running() {
             let _turn = self.tick_with(&mut recent);
         }

@@ -18,17 +18,15 @@ ghost use Rattle.hm_sched.specs.Schedule.{Sched, TickLine, younger_letter};
 
 use crate::conclusion::{EarlyEnd, conclude};
 use crate::entry::enter_picked;
-use hm_cpu::{Cpu, letter};
+use hm_cpu::{Cpu, Letters};
 use hm_mem::{Dev, Mem};
-use hm_recent::Cached;
 use hm_run::Outcome;
 use hm_sys::{arrive_all, count};
 use hm_window::ending;
 
 /// What a letter of a schedule does, the `step`-th of its tick.
 #[inline(always)]
-fn letter_at(step: u32, l: u8, recent: &mut [Cached], x: &mut Cpu) -> Result<(), EarlyEnd>
-    requires some { 0 < length recent.old }
+fn letter_at<L: Letters>(step: u32, l: u8, recent: &mut L, x: &mut Cpu) -> Result<(), EarlyEnd>
     requires count { (x.old.retired < 2 ^ 61) × (x.old.older_steps < 2 ^ 61) }
     requires position { IsPosition x.old }
     requires room { vec_capacity x.old.output ≡ most_output }
@@ -39,9 +37,8 @@ fn letter_at(step: u32, l: u8, recent: &mut [Cached], x: &mut Cpu) -> Result<(),
     ensures moves { KeepsFlash x.old x.new }
     ensures position { OnOk result (IsPosition x.new) }
     ensures count { (x.new.retired ≤ x.old.retired + 4) × (x.new.older_steps ≤ x.old.older_steps + 4) }
-    ensures places { length recent.new ≡ length recent.old }
 {
-    if let Err(end) = letter(l, recent, x) {
+    if let Err(end) = recent.letter(l, x) {
         return Err(EarlyEnd {
             step,
             younger: l == b'Y',
@@ -53,8 +50,7 @@ fn letter_at(step: u32, l: u8, recent: &mut [Cached], x: &mut Cpu) -> Result<(),
 
 /// The letters of a tick, one after another: as bytes, eight at most.
 #[inline(always)]
-fn letters(steps: &[u8], recent: &mut [Cached], x: &mut Cpu) -> Result<(), EarlyEnd>
-    requires some { 0 < length recent.old }
+fn letters<L: Letters>(steps: &[u8], recent: &mut L, x: &mut Cpu) -> Result<(), EarlyEnd>
     requires few { length steps.now ≤ 8 }
     requires count { (x.old.retired < 2 ^ 60) × (x.old.older_steps < 2 ^ 60) }
     requires position { IsPosition x.old }
@@ -66,7 +62,6 @@ fn letters(steps: &[u8], recent: &mut [Cached], x: &mut Cpu) -> Result<(), Early
     ensures moves { KeepsFlash x.old x.new }
     ensures position { OnOk result (IsPosition x.new) }
     ensures count { (x.new.retired ≤ x.old.retired + 32) × (x.new.older_steps ≤ x.old.older_steps + 32) }
-    ensures places { length recent.new ≡ length recent.old }
 {
     let mut step = 0;
     for l in steps {
@@ -123,15 +118,14 @@ fn end_tick(
 /// A tick, by its number, its letters, its interrupts, and whether exceptions may enter at its end. The answer is whether one did, or how the run ends
 /// in the tick.
 #[inline(always)]
-pub fn tick(
+pub fn tick<L: Letters>(
     tick: u32,
     steps: &[u8],
     irq: &[u32; 8],
     entries: bool,
-    recent: &mut [Cached],
+    recent: &mut L,
     x: &mut Cpu,
 ) -> Result<bool, Outcome>
-    requires some { 0 < length recent.old }
     requires few { length steps.now ≤ 8 }
     requires count { (x.old.retired < 2 ^ 60) × (x.old.older_steps < 2 ^ 60) }
     requires position { IsPosition x.old }
@@ -143,7 +137,6 @@ pub fn tick(
     ensures moves { KeepsFlash x.old x.new }
     ensures position { OnOk result (IsPosition x.new) }
     ensures count { (x.new.retired ≤ x.old.retired + 33) × (x.new.older_steps ≤ x.old.older_steps + 33) }
-    ensures places { length recent.new ≡ length recent.old }
 {
     if let Err(early) = letters(steps, recent, x) {
         return Err(conclude(tick, early, x));

@@ -2,7 +2,7 @@ use Rattle.std.proofs.Common.{Result, Err, ap, sym, ◌∙◌}
 use Rattle.hm_base.specs.declared.Fault.{Fault}
 use Rattle.hm_handlers.specs.Nested.{steps}
 use Rattle.hm_isa.specs.declared.Instr.{Instr}
-use Rattle.hm_cpu.proofs.Letters.{one_step}
+use Rattle.hm_cpu.proofs.OneStep.{one_step}
 use Rattle.hm_recent.proofs.Rows.{listed_here}
 use Rattle.hm_cpu.specs.Cpus.{nested_of}
 use Rattle.hm_run.specs.Program.{steps_left, vector_of}

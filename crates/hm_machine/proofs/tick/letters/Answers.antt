@@ -6,24 +6,23 @@ use Rattle.hm_machine.specs.Ticked.{early_ended}
 use Rattle.hm_machine.proofs.tick.letters.Goals as goal
 
 pub returns-in-Err-clause-value : goal.returns-in-Err-clause-value
-returns-in-Err-clause-value c listing s is sound =
+returns-in-Err-clause-value g c listing s is sound =
     let step = c.in-Err.ensures.value listing s (listed_still c.loop-l.invariant.moves listing is) (c.loop-l.invariant.sound s sound) in
     letters_stop listing s c.loop-l.l-index c.loop-l.step c.args.steps.now (nested_of c.loop-l.x) c.loop-l-test.true c.loop-l.invariant.counted
     (early_ended c.in-Err.early (nested_of c.letter_at.new.x)) step
     ∙ c.loop-l.invariant.value listing s is sound
 
 pub returns-in-Err-clause-moves : goal.returns-in-Err-clause-moves
-returns-in-Err-clause-moves c = moves_then c.loop-l.invariant.moves c.in-Err.ensures.moves
+returns-in-Err-clause-moves g c = moves_then c.loop-l.invariant.moves c.in-Err.ensures.moves
 
 pub loop-l-preserved : goal.loop-l-preserved
-loop-l-preserved c = record {
+loop-l-preserved g c = record {
   value = λ listing s is sound.
       letters_on listing s c.loop-l.l-index c.loop-l.step c.args.steps.now (nested_of c.loop-l.x) c.loop-l-test.true c.loop-l.invariant.counted
       (nested_of c.letter_at.new.x)
       (c.in_default.ensures.value listing s (listed_still c.loop-l.invariant.moves listing is) (c.loop-l.invariant.sound s sound))
       ∙ c.loop-l.invariant.value listing s is sound;
   sound = λ s sound. c.in_default.ensures.sound s (c.loop-l.invariant.sound s sound);
-  places = c.in_default.ensures.places ∙ c.loop-l.invariant.places;
   some = (c.loop-l.invariant.some.0, c.in_default.ensures.sound c.loop-l.invariant.some.0 c.loop-l.invariant.some.1);
   moves = moves_then c.loop-l.invariant.moves c.in_default.ensures.moves;
   position = c.in_default.ensures.position;

@@ -1,4 +1,4 @@
-use Rattle.std.proofs.Common.{◌≡◌, ◌+◌, ◌*◌, ◌≤◌, drop, length}
+use Rattle.std.proofs.Common.{◌≡◌, ◌+◌, ◌*◌, ◌≤◌, drop}
 use Rattle.hm_codes.specs.Listing.{Listing, IsListing}
 use Rattle.hm_cpu.specs.Cpus.{nested_of, IsPosition, IsSoundUnder, IsSoundUnderSome, KeepsFlash}
 use Rattle.hm_handlers.specs.Nested.{letters}
@@ -7,12 +7,11 @@ use Rattle.hm_sched.specs.Schedule.{Sched}
 use Rattle.hm_machine.proofs.tick.letters.Given as goal
 
 abbrev pub invariant-loop-l : goal.invariant-loop-l
-invariant-loop-l l = record {
+invariant-loop-l g l = record {
   value : (listing : Listing) (s : Sched) → IsListing (flash_at (memory_of l.initial.x.mem)) listing → IsSoundUnder s l.initial.x
       → letters listing s l.l-index (drop l.l-index l.steps) (nested_of l.x) ≡ letters listing s 0 l.steps (nested_of l.initial.x);
   sound : (s : Sched) → IsSoundUnder s l.initial.x → IsSoundUnder s l.x;
   some : IsSoundUnderSome l.x;
-  places : length l.recent ≡ length l.initial.recent;
   moves : KeepsFlash l.initial.x l.x;
   position : IsPosition l.x;
   counted : l.step ≡ l.l-index;

@@ -8,10 +8,10 @@ use Rattle.hm_machine.specs.Shown.{run_with}
 use Rattle.hm_machine.proofs.tick.tick.Goals as goal
 
 pub end_tick-requires-clause-sound : goal.end_tick-requires-clause-sound
-end_tick-requires-clause-sound c = (c.requires.sound.0, c.in_default.ensures.sound c.requires.sound.0 c.requires.sound.1)
+end_tick-requires-clause-sound g c = (c.requires.sound.0, c.in_default.ensures.sound c.requires.sound.0 c.requires.sound.1)
 
 pub returns-clause-value : goal.returns-clause-value
-returns-clause-value c listing s line t es is entries steps irq number sound =
+returns-clause-value g c listing s line t es is entries steps irq number sound =
     let x = c.args.x.now in
     let m = nested_of c.letters.new.x in
     let new = nested_of c.end_tick.new.x in
@@ -22,7 +22,7 @@ returns-clause-value c listing s line t es is entries steps irq number sound =
     (subst (λ (k : ℕ). Came c.end_tick.result new c.args.tick es (tick_end s line (run_with None m k es))) (sym number) end)
 
 pub returns-in-Err-clause-value : goal.returns-in-Err-clause-value
-returns-in-Err-clause-value c listing s line t es is entries steps irq number sound =
+returns-in-Err-clause-value g c listing s line t es is entries steps irq number sound =
     let x = c.args.x.now in
     let e = early_ended c.in-Err.early (nested_of c.letters.new.x) in
     let new = nested_of c.conclude.new.x in

@@ -21,12 +21,12 @@ use Rattle.hm_sched.specs.Schedule.{TickLine, line_of}
 use Rattle.hm_machine.proofs.machine.Machine.advance.Goals as goal
 
 pub line_at-line-requires : goal.line_at-line-requires
-line_at-line-requires c = stands_there c.self.inside.schedule.lines c.self.inside.cursor
+line_at-line-requires g c = stands_there c.self.inside.schedule.lines c.self.inside.cursor
     (c.self.invariant.running (ap (λ (v : Shown). v.outcome) c.self.view_is ∙ c.requires.running))
     (subst (λ (v : Shown). 0 < length v.schedule.lines) (sym c.self.view_is) c.requires.lines)
 
 pub after_tick-requires-clause-stands : goal.after_tick-requires-clause-stands
-after_tick-requires-clause-stands c = stands_there c.self.inside.schedule.lines c.self.inside.cursor
+after_tick-requires-clause-stands g c = stands_there c.self.inside.schedule.lines c.self.inside.cursor
     (c.self.invariant.running (ap (λ (v : Shown). v.outcome) c.self.view_is ∙ c.requires.running))
     (subst (λ (v : Shown). 0 < length v.schedule.lines) (sym c.self.view_is) c.requires.lines)
 
@@ -59,7 +59,7 @@ as_entered true = refl
 as_entered false = refl
 
 pub returns-in-Err-clause-next : goal.returns-in-Err-clause-next
-returns-in-Err-clause-next c =
+returns-in-Err-clause-next g c =
     rw (← c.self.view_is) (λ listing es is.
     let inside = c.self.inside in
     let running : inside.outcome ≡ None = ap (λ (v : Shown). v.outcome) c.self.view_is ∙ c.requires.running in
@@ -73,7 +73,7 @@ returns-in-Err-clause-next c =
     (nested_of c.tick.new.x) (inside.ticks + 1) did.0))
 
 pub returns-in-Err-clause-entries : goal.returns-in-Err-clause-entries
-returns-in-Err-clause-entries c =
+returns-in-Err-clause-entries g c =
     rw (← c.self.view_is) (λ listing es is.
     let inside = c.self.inside in
     let running : inside.outcome ≡ None = ap (λ (v : Shown). v.outcome) c.self.view_is ∙ c.requires.running in
@@ -84,7 +84,7 @@ returns-in-Err-clause-entries c =
     (omega arith))
 
 pub returns-in-Some-clause-next : goal.returns-in-Some-clause-next
-returns-in-Some-clause-next c =
+returns-in-Some-clause-next g c =
     rw (← c.self.view_is) (λ listing es is.
     let inside = c.self.inside in
     let running : inside.outcome ≡ None = ap (λ (v : Shown). v.outcome) c.self.view_is ∙ c.requires.running in
@@ -103,7 +103,7 @@ returns-in-Some-clause-next c =
     (some_left (drop c.in-Some.cursor.line s.lines) c.in-Some.cursor.used c.in-Some.ensures.stands)) did.0)))
 
 pub returns-in-Some-clause-entries : goal.returns-in-Some-clause-entries
-returns-in-Some-clause-entries c =
+returns-in-Some-clause-entries g c =
     rw (← c.self.view_is) (λ listing es is.
     let inside = c.self.inside in
     let running : inside.outcome ≡ None = ap (λ (v : Shown). v.outcome) c.self.view_is ∙ c.requires.running in
@@ -114,7 +114,7 @@ returns-in-Some-clause-entries c =
     (ap (λ (n : ℕ). inside.entries + n) (c.from.ensures ∙ as_entered c.in-Ok.entered)))
 
 pub returns-in-None-clause-next : goal.returns-in-None-clause-next
-returns-in-None-clause-next c =
+returns-in-None-clause-next g c =
     rw (← c.self.view_is) (λ listing es is.
     let inside = c.self.inside in
     let running : inside.outcome ≡ None = ap (λ (v : Shown). v.outcome) c.self.view_is ∙ c.requires.running in
@@ -128,7 +128,7 @@ returns-in-None-clause-next c =
     (inside.ticks + 1) c.in-None.ensures.none did.0))
 
 pub returns-in-None-clause-entries : goal.returns-in-None-clause-entries
-returns-in-None-clause-entries c =
+returns-in-None-clause-entries g c =
     rw (← c.self.view_is) (λ listing es is.
     let inside = c.self.inside in
     let running : inside.outcome ≡ None = ap (λ (v : Shown). v.outcome) c.self.view_is ∙ c.requires.running in
@@ -143,7 +143,7 @@ one_most : (b : Bool) → entered_in (Ok b) ≤ 1
 one_most b = grind arith
 
 pub invariant_of-self-in-Some : goal.invariant_of-self-in-Some
-invariant_of-self-in-Some c =
+invariant_of-self-in-Some g c =
     let inside = c.self.inside in
     let running : inside.outcome ≡ None = ap (λ (v : Shown). v.outcome) c.self.view_is ∙ c.requires.running in
     let s = inside.schedule in
@@ -179,16 +179,16 @@ invariant_of-self-in-Some c =
     }
 
 pub returns-in-Err-clause-fixed : goal.returns-in-Err-clause-fixed
-returns-in-Err-clause-fixed c =
+returns-in-Err-clause-fixed g c =
     let moves = c.in-Err.ensures.moves in
     rw (← c.self.view_is) (λ j. record { flash = moves.flash j; places = moves.places j; schedule = c.self.inside.schedule })
 
 pub returns-in-Some-clause-fixed : goal.returns-in-Some-clause-fixed
-returns-in-Some-clause-fixed c =
+returns-in-Some-clause-fixed g c =
     let moves = c.in-Ok.ensures.moves in
     rw (← c.self.view_is) (λ j. record { flash = moves.flash j; places = moves.places j; schedule = c.self.inside.schedule })
 
 pub returns-in-None-clause-fixed : goal.returns-in-None-clause-fixed
-returns-in-None-clause-fixed c =
+returns-in-None-clause-fixed g c =
     let moves = c.in-Ok.ensures.moves in
     rw (← c.self.view_is) (λ j. record { flash = moves.flash j; places = moves.places j; schedule = c.self.inside.schedule })

@@ -76,7 +76,6 @@ loop-recent-preserved c =
           c.tick_with-turn.ensures.out _ empty
           (c.loop-recent.invariant.out running empty));
       fixed = c.tick_with-turn.ensures.fixed ∙ c.loop-recent.invariant.fixed;
-      places = let same = c.tick_with-turn.ensures.places in let some = c.loop-recent.invariant.places in omega (arith, same, some);
     }
 
 pub returns-clause-shows : goal.returns-clause-shows

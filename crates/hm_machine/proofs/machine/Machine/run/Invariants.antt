@@ -1,4 +1,4 @@
-use Rattle.std.proofs.Common.{◌≡◌, ◌⊎◌, ℕ, ◌+◌, ◌<◌, ◌≤◌, Some, None, length}
+use Rattle.std.proofs.Common.{◌≡◌, ◌⊎◌, ℕ, ◌+◌, ◌≤◌, Some, None, length}
 use Rattle.std.specs.Prelude.{IsSome}
 use Rattle.hm_base.specs.Image.{Segment}
 use Rattle.hm_run.specs.declared.Outcome.TheVariants.{OutOfTicks}
@@ -17,7 +17,6 @@ invariant-loop-recent l = record {
   out : l.initial.self.outcome ≡ None → length l.initial.self.schedule.lines ≡ 0
       → (l.self ≡ l.initial.self) ⊎ (l.self ≡ record l.initial.self { outcome = Some OutOfTicks });
   fixed : fixed_of l.self ≡ fixed_of l.initial.self;
-  places : 0 < length l.recent;
 }
 
 abbrev pub decreases-loop-recent : goal.decreases-loop-recent
