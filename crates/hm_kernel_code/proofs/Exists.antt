@@ -31,45 +31,24 @@ use Rattle.hm_kernel_lang.specs.declared.text.Array.{Array}
 use Rattle.hm_kernel_lang.specs.declared.text.Line.{Line}
 use Rattle.hm_kernel_lang.specs.declared.text.Text.{Text}
 use Rattle.hm_kernel_lang.specs.Language.{address, is_signed, modulus, need}
-use Rattle.hm_kernel_lang.specs.Machine.{Again, Begin, Clear, Do, Further, High, HighLength, Item, Kind, Load, Low, LowLength, Offset, Plain, Splat, Stop}
-use Rattle.hm_kernel_lang.specs.Machine.{Store, size_code}
+use Rattle.hm_kernel_lang.specs.declared.machine.Item.{Item}
+use Rattle.hm_kernel_lang.specs.declared.machine.Item.TheVariants.{Plain, Begin, Again, Stop}
+use Rattle.hm_kernel_lang.specs.declared.machine.Kind.{Kind}
+use Rattle.hm_kernel_lang.specs.declared.machine.Kind.TheVariants.{Clear, Low, High, LowLength, HighLength, Offset, Splat, Load, Store, Do, Further}
+use Rattle.hm_kernel_lang.specs.Machine.{size_code}
 use Rattle.hm_kernel_lang.specs.Texts.{IsArray, IsOver, IsSet, IsText}
 use Rattle.hm_kernel_lang.proofs.Straight.{halves_append}
 use Rattle.hm_base.specs.Image.{Segment, flat}
 use Rattle.hm_kernel_code.specs.Images.{IsMade, flash_bytes}
+use Rattle.hm_kernel_code.specs.Ranges.{ItemFits, ItemsFit, KindFits}
 use Rattle.hm_kernel_code.specs.Segments.{with_arrays}
 use Rattle.hm_kernel_code.specs.Instructions.{IsItem, IsKind, IsMoveRow, IsOperation, element_name}
 use Rattle.hm_kernel_code.proofs.Appending.{expr_halves}
 use Rattle.hm_kernel_code.proofs.Room.{one_fewer}
 use Rattle.hm_kernel_code.proofs.Made.{again_made, begin_made, move_made, sum_made}
 
--- ---- ranges
-
--- what an item says is in its ranges
-abbrev KindFits : Kind → Type 0
-KindFits Clear = Unit {0}
-KindFits (Low n) = n < 2 ^ 16
-KindFits (High n) = n < 2 ^ 16
-KindFits (LowLength n) = n < 2 ^ 16
-KindFits (HighLength n) = n < 2 ^ 16
-KindFits Offset = Unit {0}
-KindFits (Splat q) = q < 8
-KindFits (Load q) = q < 8
-KindFits (Store q) = q < 8
-KindFits (Do o q) = q + 1 < 8
-KindFits Further = Unit {0}
-
-abbrev ItemFits : Item → Type 0
-ItemFits (Plain k) = KindFits k
-ItemFits (Begin h) = h < 2048
-ItemFits (Again h) = h < 2048
-ItemFits Stop = Unit {0}
-
 abbrev KindsFit : List Kind → Type 0
 KindsFit = AllByRecursion KindFits
-
-abbrev pub ItemsFit : List Item → Type 0
-ItemsFit = AllByRecursion ItemFits
 
 -- ---- instructions
 
@@ -197,8 +176,8 @@ module _ (t : ElementType) (at : ℕ → ℕ) (low : (i : ℕ) → at i < 2 ^ 32
       (items_of (head_code n) (tt, (omega arith, (omega arith, tt))))
       (close, fit_append ItemFits (map Plain (body_code at l)) (Again h ∷ []) (items_of (body_code at l) (body_fits l set)) (close, tt))
 
-  -- so have the items of a text's code, where its arrays lie below 2^32
-  pub lines_fit : (n : ℕ) (ls : List Line) → n < 2 ^ 32 → All (IsSet t k) ls → ItemsFit (lines_code at n ls)
+  -- so are the items of lines, where their arrays lie below 2^32
+  lines_fit : (n : ℕ) (ls : List Line) → n < 2 ^ 32 → All (IsSet t k) ls → ItemsFit (lines_code at n ls)
   lines_fit n [] count sets = (tt, tt)
   lines_fit n (l ∷ ls) count sets =
       fit_append ItemFits (line_code at n l) (lines_code at n ls) (line_fits n l count (All-head (IsSet t k) l ls sets))
@@ -211,12 +190,17 @@ address_low t n [] h i = omega arith
 address_low t n (x ∷ xs) h zero = let high = (All-head (IsArray t n) x xs h).placed.high in omega arith
 address_low t n (x ∷ xs) h (suc i) = address_low t n xs (All-tail (IsArray t n) x xs h) i
 
+-- the items of a text's code are in their ranges
+pub code_fits : (x : Text) → IsText x → ItemsFit (code x)
+code_fits x text =
+    let t = x.element in
+    let xs = x.arrays.items in
+    let count = text.count in
+    lines_fit t (address xs) (address_low t x.count xs text.arrays) (length xs) x.count x.lines.items (omega arith) text.lines
+
 -- each text has an image
 pub some_made : (x : Text) → IsText x → (image : List Segment) × IsMade x image
 some_made x text =
     let t = x.element in
-    let xs = x.arrays.items in
-    let count = text.count in
-    let is = some_items ItemFits (IsItem t) (some_item t) (code x)
-    (lines_fit t (address xs) (address_low t x.count xs text.arrays) (length xs) x.count x.lines.items (omega arith) text.lines) in
-    (with_arrays t xs (flat (flash_bytes is.0)), record { instrs = is.0; kinds = is.1; is = refl })
+    let is = some_items ItemFits (IsItem t) (some_item t) (code x) (code_fits x text) in
+    (with_arrays t x.arrays.items (flat (flash_bytes is.0)), record { instrs = is.0; kinds = is.1; is = refl })

@@ -8,7 +8,10 @@ use Rattle.hm_kernel_lang.specs.declared.text.ElementType.{ElementType}
 use Rattle.hm_kernel_lang.specs.declared.text.Op.{Op}
 use Rattle.hm_kernel_lang.specs.declared.text.Op.TheVariants as op
 use Rattle.hm_kernel_lang.specs.declared.text.Line.{Line}
-use Rattle.hm_kernel_lang.specs.Machine.{Again, Begin, Do, Item, Kind, Plain}
+use Rattle.hm_kernel_lang.specs.declared.machine.Item.{Item}
+use Rattle.hm_kernel_lang.specs.declared.machine.Item.TheVariants.{Plain, Begin, Again}
+use Rattle.hm_kernel_lang.specs.declared.machine.Kind.{Kind}
+use Rattle.hm_kernel_lang.specs.declared.machine.Kind.TheVariants.{Do}
 use Rattle.hm_kernel_lang.specs.Machine.{halves, item_halves}
 use Rattle.hm_kernel_lang.specs.Code.{body_code, halves_of, head_code, line_code, lines_code}
 use Rattle.hm_kernel_lang.specs.Correct.{CodeStands}

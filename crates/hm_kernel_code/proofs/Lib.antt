@@ -2,6 +2,7 @@ pub mod Segments
 pub mod Held
 pub mod Made
 pub mod Appending
+pub mod Flash
 pub mod Summing
 pub mod Room
 pub mod Apart

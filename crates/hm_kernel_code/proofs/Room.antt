@@ -12,7 +12,7 @@ use Rattle.hm_kernel_lang.specs.declared.text.Line.{Line}
 use Rattle.hm_kernel_lang.specs.declared.text.Text.{Text}
 use Rattle.hm_kernel_lang.specs.Code.{body_code, code, end_code, expr_code, halves_of, head_code, line_code, lines_code}
 use Rattle.hm_kernel_lang.specs.Language.{address, names, numbers, operations}
-use Rattle.hm_kernel_lang.specs.Machine.{Again, Begin, Plain}
+use Rattle.hm_kernel_lang.specs.declared.machine.Item.TheVariants.{Plain, Begin, Again}
 use Rattle.hm_kernel_lang.specs.Texts.{IsSet, IsText}
 use Rattle.hm_kernel_lang.proofs.Lines.{items_append}
 use Rattle.hm_kernel_lang.proofs.Straight.{halves_append, items_halves, plain_halves}

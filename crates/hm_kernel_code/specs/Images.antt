@@ -8,7 +8,8 @@ use Rattle.hm_code_bytes.specs.Bytes.{all_halves, half_bytes, word_bytes}
 use Rattle.hm_kernel_lang.specs.declared.text.ElementType.{ElementType}
 use Rattle.hm_kernel_lang.specs.declared.text.Text.{Text}
 use Rattle.hm_kernel_lang.specs.Language.{first_memory}
-use Rattle.hm_kernel_lang.specs.Machine.{Item, item_halves}
+use Rattle.hm_kernel_lang.specs.declared.machine.Item.{Item}
+use Rattle.hm_kernel_lang.specs.Machine.{item_halves}
 use Rattle.hm_kernel_lang.specs.Code.{code}
 use Rattle.hm_kernel_lang.specs.Correct.{CodeStands}
 use Rattle.hm_kernel_code.specs.Instructions.{AreItems, IsItem, StaysIn}
@@ -32,6 +33,12 @@ pub record IsImageOf (x : Text) (image : List Segment) : Type 0 where
 -- the bytes of flash: the stack pointer at the reset, the address of the first instruction with the bit of Thumb code, and the codes
 abbrev pub flash_bytes : List Instr → List ℕ
 flash_bytes is = word_bytes 0x20040000 ++ (word_bytes 9 ++ half_bytes (all_halves is))
+
+-- bytes are those of flash with instructions that are these items
+pub record HasItems (t : ElementType) (xs : List Item) (bytes : List ℕ) : Type 0 where
+  pub instrs : List Instr
+  pub kinds : AreItems t xs instrs
+  pub is : bytes ≡ flash_bytes instrs
 
 -- the image that a compiler makes of a text: one segment in flash, with instructions that are those of its code, and one for each array with values
 pub record IsMade (x : Text) (image : List Segment) : Type 0 where

@@ -25,8 +25,11 @@ use Rattle.hm_kernel_lang.specs.declared.text.ElementType.TheVariants.{U8, S8, U
 use Rattle.hm_kernel_lang.specs.declared.text.Op.{Op}
 use Rattle.hm_kernel_lang.specs.declared.text.Op.TheVariants as op
 use Rattle.hm_kernel_lang.specs.Language.{is_signed}
-use Rattle.hm_kernel_lang.specs.Machine.{Kind, Clear, Low, High, LowLength, HighLength, Offset, Splat, Load, Store, Do, Further, Item, Plain, Begin, Again}
-use Rattle.hm_kernel_lang.specs.Machine.{Stop, size_code}
+use Rattle.hm_kernel_lang.specs.declared.machine.Item.{Item}
+use Rattle.hm_kernel_lang.specs.declared.machine.Item.TheVariants.{Plain, Begin, Again, Stop}
+use Rattle.hm_kernel_lang.specs.declared.machine.Kind.{Kind}
+use Rattle.hm_kernel_lang.specs.declared.machine.Kind.TheVariants.{Clear, Low, High, LowLength, HighLength, Offset, Splat, Load, Store, Do, Further}
+use Rattle.hm_kernel_lang.specs.Machine.{size_code}
 
 -- S6: ADD rd,rm (DDI0553, "ADD (register)")
 pub record IsSumRow (d m : ℕ) (i : Instr) : Type 0 where

@@ -1,4 +1,4 @@
 pub mod Instructions
 pub mod Segments
 pub mod Images
-pub mod Appending
+pub mod Ranges

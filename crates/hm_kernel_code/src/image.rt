@@ -3,16 +3,18 @@
 ghost use Rattle.std.specs.Prelude.{◌≡◌, ◌<◌, ◌≤◌, List, length, IfOk};
 ghost use Rattle.hm_base.specs.Image.{Segment, IsApart, IsImage, IsPlaced, flash_byte, flash_size, flat, word_at};
 ghost use Rattle.hm_base.specs.declared.errors.ImageErr.TheVariants as image_err;
-ghost use Rattle.hm_kernel_code.specs.Images.{IsImageOf, IsMade, flash_bytes};
+ghost use Rattle.hm_kernel_code.specs.Images.{HasItems, IsImageOf, IsMade};
+ghost use Rattle.hm_kernel_code.specs.Ranges.{ItemsFit};
 ghost use Rattle.hm_kernel_code.specs.Segments.{AllApart, AllPlaced, array_segment, with_array, with_arrays};
 ghost use Rattle.hm_kernel_lang.specs.declared.text.Text.{Text};
 ghost use Rattle.hm_kernel_lang.specs.Texts.{IsText};
 
 use crate::lines::code_of;
+use crate::rows::instr_of;
 use crate::values::value_bytes;
 use hm_base::{Image, ImageErr, OutOfMemory};
-use hm_code_bytes::{add_codes, add_word};
-use hm_isa::Instr;
+use hm_code_bytes::{add_code, add_word};
+use hm_kernel_lang::machine::Item;
 use hm_kernel_lang::text::{Array, ElementType, Text};
 use std::alloc::Global;
 
@@ -30,14 +32,17 @@ fn memory_of(e: ImageErr) -> OutOfMemory
     OutOfMemory
 }
 
-/// The bytes of flash.
-fn flash_bytes(alloc: Global, instrs: &[Instr]) -> Result<Vec<u8>, OutOfMemory>
-    ensures bytes { IfOk result (λ bytes. bytes.items ≡ flash_bytes instrs.now) }
+/// The bytes of flash that have the codes of items.
+fn flash_bytes(alloc: Global, t: ElementType, items: &[Item]) -> Result<Vec<u8>, OutOfMemory>
+    requires fit { ItemsFit items.now }
+    ensures bytes { IfOk result (λ bytes. HasItems t items.now bytes.items) }
 {
     let mut bytes = Vec::new(alloc);
     add_word(&mut bytes, STACK)?;
     add_word(&mut bytes, FIRST)?;
-    add_codes(&mut bytes, instrs)?;
+    for item in items {
+        add_code(&mut bytes, &instr_of(t, *item))?;
+    }
     Ok(bytes)
 }
 
@@ -100,8 +105,8 @@ pub fn image_of(alloc: Global, text: &Text) -> Result<Image, OutOfMemory>
     requires text { IsText text.now }
     ensures made { IfOk result (λ image. IsMade text.now image) }
 {
-    let instrs = code_of(alloc, text)?;
-    let bytes = flash_bytes(alloc, &instrs)?;
+    let items = code_of(alloc, text)?;
+    let bytes = flash_bytes(alloc, text.element, &items)?;
     let mut image = flat_image(alloc, bytes)?;
     add_arrays(alloc, &mut image, text.element, &text.arrays)?;
     Ok(image)

@@ -1,29 +1,31 @@
-//! The instructions of a text's code, as values.
+//! The instructions of a text's code, as values, item by item.
 
 ghost use Rattle.std.specs.Prelude.{◌≡◌, ◌+◌, ◌<◌, cond};
 ghost use Rattle.hm_code_bytes.specs.Instructions.{IsAddRow, IsDuplicateRow, IsSignedRow};
 ghost use Rattle.hm_isa.specs.declared.vectors.AddName.{AddName};
 ghost use Rattle.hm_isa.specs.declared.vectors.SignedName.{SignedName};
-ghost use Rattle.hm_kernel_code.specs.Instructions.{IsAgainRow, IsBeginRow, IsMoveRow, IsOperation, IsSumRow, element_name};
+ghost use Rattle.hm_kernel_code.specs.Instructions.{IsAgainRow, IsBeginRow, IsItem, IsKind, IsMoveRow, IsOperation, IsSumRow, element_name};
+ghost use Rattle.hm_kernel_code.specs.Ranges.{ItemFits, KindFits};
 ghost use Rattle.hm_kernel_lang.specs.Language.{is_signed};
 ghost use Rattle.hm_kernel_lang.specs.Machine.{size_code};
 
 use hm_code_bytes::rows;
-use hm_code_bytes::rows::bitwise_row;
+use hm_code_bytes::rows::{bitwise_row, breakpoint_row, byte_row, half_row};
 use hm_isa::{
-    AddName, Below, BitwiseName, Branch, Element, Instr, LoopEnd, LoopEndName, S6, Scalar,
-    SignedName, T23, V24, Vector, Wlstp,
+    AddName, Below, BitwiseName, Branch, ByteName, Element, HalfName, Instr, LoopEnd, LoopEndName,
+    S6, Scalar, SignedName, T23, V24, Vector, Wlstp,
 };
+use hm_kernel_lang::machine::{Item, Kind};
 use hm_kernel_lang::text::{ElementType, Op};
 
 /// The register with the offset of the elements that are next.
-pub const OFFSET: u32 = 4;
+const OFFSET: u32 = 4;
 
 /// The register with an address or a number.
-pub const SCRATCH: u32 = 5;
+const SCRATCH: u32 = 5;
 
 /// The register with the number of elements.
-pub const LENGTH: u32 = 6;
+const LENGTH: u32 = 6;
 
 /// The size of a type's elements, as rows have it that name it by a number.
 fn size_of(t: ElementType) -> u32
@@ -60,7 +62,7 @@ fn unsigned_of(t: ElementType) -> u32
 }
 
 /// `add r5,r4`: the address of the elements that are next, from that of the array.
-pub fn add_offset() -> Instr
+fn add_offset() -> Instr
     ensures row { IsSumRow 5 4 result }
 {
     let row = S6 {
@@ -71,7 +73,7 @@ pub fn add_offset() -> Instr
 }
 
 /// `vdup qd,r5`.
-pub fn splat(t: ElementType, d: u32) -> Instr
+fn splat(t: ElementType, d: u32) -> Instr
     requires register { d < 8 }
     ensures row { IsDuplicateRow (element_name t) d 5 result }
 {
@@ -79,7 +81,7 @@ pub fn splat(t: ElementType, d: u32) -> Instr
 }
 
 /// A load of qd from the address in r5 where l is 1, and a store of it there where l is 0.
-pub fn transfer(t: ElementType, l: u32, d: u32) -> Instr
+fn transfer(t: ElementType, l: u32, d: u32) -> Instr
     requires way { l < 2 }
     requires register { d < 8 }
     ensures row { IsMoveRow t l d 5 result }
@@ -114,7 +116,7 @@ fn signed_row(t: ElementType, name: SignedName, d: u32) -> Instr
 }
 
 /// An operation on qd and the register behind it, in qd.
-pub fn operation(t: ElementType, op: Op, d: u32) -> Instr
+fn operation(t: ElementType, op: Op, d: u32) -> Instr
     requires register { d + 1 < 8 }
     ensures row { IsOperation t op d result }
 {
@@ -131,7 +133,7 @@ pub fn operation(t: ElementType, op: Op, d: u32) -> Instr
 }
 
 /// `wlstp lr,r6`, past so many halfwords where there is nothing to do.
-pub fn begin_loop(t: ElementType, halves: u32) -> Instr
+fn begin_loop(t: ElementType, halves: u32) -> Instr
     requires near { halves < 2048 }
     ensures row { IsBeginRow t halves result }
 {
@@ -144,7 +146,7 @@ pub fn begin_loop(t: ElementType, halves: u32) -> Instr
 }
 
 /// `letp lr`, back over so many halfwords where there is more to do.
-pub fn end_loop(halves: u32) -> Instr
+fn end_loop(halves: u32) -> Instr
     requires near { halves < 2048 }
     ensures row { IsAgainRow halves result }
 {
@@ -153,4 +155,37 @@ pub fn end_loop(halves: u32) -> Instr
         v: Below::new(halves),
     };
     Instr::Branch(Branch::T23(T23::End(row)))
+}
+
+/// The instruction of a kind.
+fn plain(t: ElementType, kind: Kind) -> Instr
+    requires fits { KindFits kind }
+    ensures row { IsKind t kind result }
+{
+    match kind {
+        Kind::Clear => byte_row(ByteName::Mov, OFFSET, 0),
+        Kind::Low(n) => half_row(HalfName::Movw, SCRATCH, n),
+        Kind::High(n) => half_row(HalfName::Movt, SCRATCH, n),
+        Kind::LowLength(n) => half_row(HalfName::Movw, LENGTH, n),
+        Kind::HighLength(n) => half_row(HalfName::Movt, LENGTH, n),
+        Kind::Offset => add_offset(),
+        Kind::Splat(q) => splat(t, q),
+        Kind::Load(q) => transfer(t, 1, q),
+        Kind::Store(q) => transfer(t, 0, q),
+        Kind::Do(op, q) => operation(t, op, q),
+        Kind::Further => byte_row(ByteName::Add, OFFSET, 16),
+    }
+}
+
+/// The instruction of an item.
+pub fn instr_of(t: ElementType, item: Item) -> Instr
+    requires fits { ItemFits item }
+    ensures row { IsItem t item result }
+{
+    match item {
+        Item::Plain(kind) => plain(t, kind),
+        Item::Begin(halves) => begin_loop(t, halves),
+        Item::Again(halves) => end_loop(halves),
+        Item::Stop => breakpoint_row(0),
+    }
 }

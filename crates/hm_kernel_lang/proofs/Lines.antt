@@ -8,7 +8,10 @@ use Rattle.hm_kernel_lang.specs.declared.text.ElementType.{ElementType}
 use Rattle.hm_kernel_lang.specs.declared.text.Line.{Line}
 use Rattle.hm_kernel_lang.specs.Language.{Bytes, after_line, after_lines, bytes, lanes, line_steps, lines_steps, names, need, numbers, operations, replaced}
 use Rattle.hm_kernel_lang.specs.Language.{rounds, value}
-use Rattle.hm_kernel_lang.specs.Machine.{View, Item, Plain, Begin, Again, Low, High, Offset, again, begun, exec, size_code}
+use Rattle.hm_kernel_lang.specs.declared.machine.Item.{Item}
+use Rattle.hm_kernel_lang.specs.declared.machine.Item.TheVariants.{Plain, Begin, Again}
+use Rattle.hm_kernel_lang.specs.declared.machine.Kind.TheVariants.{Low, High, Offset}
+use Rattle.hm_kernel_lang.specs.Machine.{View, again, begun, exec, size_code}
 use Rattle.hm_kernel_lang.specs.Code.{body_code, end_code, expr_code, halves_of, head_code, line_code, lines_code}
 use Rattle.hm_kernel_lang.specs.Correct.{AreLines, CodeStands, Ends, IsLine, Reaches, Rows}
 use Rattle.hm_kernel_lang.proofs.Numbers.{high_half, inside, last_round, low_half, next_vector, no_round, one_round, two_halves}

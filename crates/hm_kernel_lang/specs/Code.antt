@@ -5,8 +5,11 @@ use Rattle.hm_kernel_lang.specs.declared.text.Expr.TheVariants.{Name, Number, Ap
 use Rattle.hm_kernel_lang.specs.declared.text.Line.{Line}
 use Rattle.hm_kernel_lang.specs.declared.text.Text.{Text}
 use Rattle.hm_kernel_lang.specs.Language.{address}
-use Rattle.hm_kernel_lang.specs.Machine.{Kind, Clear, Low, High, LowLength, HighLength, Offset, Splat, Load, Store, Do, Further, halves, Item, Plain, Begin}
-use Rattle.hm_kernel_lang.specs.Machine.{Again, Stop}
+use Rattle.hm_kernel_lang.specs.declared.machine.Item.{Item}
+use Rattle.hm_kernel_lang.specs.declared.machine.Item.TheVariants.{Plain, Begin, Again, Stop}
+use Rattle.hm_kernel_lang.specs.declared.machine.Kind.{Kind}
+use Rattle.hm_kernel_lang.specs.declared.machine.Kind.TheVariants.{Clear, Low, High, LowLength, HighLength, Offset, Splat, Load, Store, Do, Further}
+use Rattle.hm_kernel_lang.specs.Machine.{halves}
 
 -- an address or a constant in the scratch register
 abbrev pub constant_code : ℕ → List Kind → List Kind

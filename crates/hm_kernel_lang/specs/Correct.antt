@@ -5,7 +5,10 @@ use Rattle.hm_kernel_lang.specs.declared.text.Expr.{Expr}
 use Rattle.hm_kernel_lang.specs.declared.text.Expr.TheVariants.{Name, Number, Apply'}
 use Rattle.hm_kernel_lang.specs.declared.text.Line.{Line}
 use Rattle.hm_kernel_lang.specs.Language.{Bytes, bytes, modulus, need}
-use Rattle.hm_kernel_lang.specs.Machine.{View, Kind, Item, Plain, Begin, Again, Stop, Can, again, begun, exec, item_halves, size_code}
+use Rattle.hm_kernel_lang.specs.declared.machine.Item.{Item}
+use Rattle.hm_kernel_lang.specs.declared.machine.Item.TheVariants.{Plain, Begin, Again, Stop}
+use Rattle.hm_kernel_lang.specs.declared.machine.Kind.{Kind}
+use Rattle.hm_kernel_lang.specs.Machine.{View, Can, again, begun, exec, item_halves, size_code}
 
 -- ANY MACHINE
 -- what follows on a step that goes on

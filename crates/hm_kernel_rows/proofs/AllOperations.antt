@@ -26,7 +26,9 @@ use Rattle.hm_kernel_lang.specs.declared.text.ElementType.{ElementType}
 use Rattle.hm_kernel_lang.specs.declared.text.Op.{Op}
 use Rattle.hm_kernel_lang.specs.declared.text.Op.TheVariants as op
 use Rattle.hm_kernel_lang.specs.Language.{is_signed, lanes, op_value}
-use Rattle.hm_kernel_lang.specs.Machine.{View, Do, Plain, exec, merged, size_code}
+use Rattle.hm_kernel_lang.specs.declared.machine.Item.TheVariants.{Plain}
+use Rattle.hm_kernel_lang.specs.declared.machine.Kind.TheVariants.{Do}
+use Rattle.hm_kernel_lang.specs.Machine.{View, exec, merged, size_code}
 use Rattle.hm_kernel_lang.specs.Correct.{Reaches}
 use Rattle.hm_kernel_rows.specs.Shows.{Shows, size_of_type}
 use Rattle.hm_code_bytes.specs.Instructions.{IsBitwiseRow, IsSignedRow}

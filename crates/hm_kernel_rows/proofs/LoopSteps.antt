@@ -27,7 +27,8 @@ use Rattle.hm_thumb.specs.declared.Way.TheVariants as way
 use Rattle.hm_whole.specs.Whole.{seen_in}
 use Rattle.hm_kernel_lang.specs.declared.text.ElementType.{ElementType}
 use Rattle.hm_kernel_lang.specs.Language.{lanes}
-use Rattle.hm_kernel_lang.specs.Machine.{View, Begin, Again, Stop, again, begun, size_code}
+use Rattle.hm_kernel_lang.specs.declared.machine.Item.TheVariants.{Begin, Again, Stop}
+use Rattle.hm_kernel_lang.specs.Machine.{View, again, begun, size_code}
 use Rattle.hm_kernel_lang.specs.Correct.{Reaches}
 use Rattle.hm_kernel_rows.specs.Shows.{Shows}
 use Rattle.hm_kernel_rows.specs.Standing.{Stands}

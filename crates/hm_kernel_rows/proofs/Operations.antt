@@ -32,7 +32,9 @@ use Rattle.hm_kernel_lang.specs.declared.text.ElementType.{ElementType}
 use Rattle.hm_kernel_lang.specs.declared.text.ElementType.TheVariants.{U8, S8, U16, S16, U32, S32}
 use Rattle.hm_kernel_lang.specs.declared.text.Op.TheVariants as op
 use Rattle.hm_kernel_lang.specs.Language.{lanes, modulus, op_value}
-use Rattle.hm_kernel_lang.specs.Machine.{View, Do, Plain, Splat, exec, merged, size_code}
+use Rattle.hm_kernel_lang.specs.declared.machine.Item.TheVariants.{Plain}
+use Rattle.hm_kernel_lang.specs.declared.machine.Kind.TheVariants.{Splat, Do}
+use Rattle.hm_kernel_lang.specs.Machine.{View, exec, merged, size_code}
 use Rattle.hm_kernel_lang.specs.Correct.{Reaches}
 use Rattle.hm_kernel_rows.specs.Shows.{Shows, element_at, size_of_type}
 use Rattle.hm_code_bytes.specs.Instructions.{IsAddRow}

@@ -36,7 +36,9 @@ use Rattle.hm_run.specs.Program as program
 use Rattle.hm_run.specs.Stops.{Faults, WholeStop}
 use Rattle.hm_whole.specs.Whole.{goes_from, scalar_alone, seen_in, state_with}
 use Rattle.hm_kernel_lang.specs.declared.text.ElementType.{ElementType}
-use Rattle.hm_kernel_lang.specs.Machine.{View, Clear, Low, High, LowLength, HighLength, Offset, Further, Plain, exec, with_high}
+use Rattle.hm_kernel_lang.specs.declared.machine.Item.TheVariants.{Plain}
+use Rattle.hm_kernel_lang.specs.declared.machine.Kind.TheVariants.{Clear, Low, High, LowLength, HighLength, Offset, Further}
+use Rattle.hm_kernel_lang.specs.Machine.{View, exec, with_high}
 use Rattle.hm_kernel_lang.specs.Correct.{Reaches, and_then}
 use Rattle.hm_kernel_rows.specs.Shows.{Shows}
 use Rattle.hm_kernel_rows.specs.Standing.{Stands}

@@ -22,7 +22,9 @@ use Rattle.hm_state.specs.State.{At, Byte, Cell, State, Value, at, cells}
 use Rattle.hm_kernel_lang.specs.declared.text.ElementType.{ElementType}
 use Rattle.hm_kernel_lang.specs.declared.text.ElementType.TheVariants.{U8, S8, U16, S16, U32, S32}
 use Rattle.hm_kernel_lang.specs.Language.{Bytes, bytes, lanes, replaced, with_number}
-use Rattle.hm_kernel_lang.specs.Machine.{IsWithin, Plain, Store, View, exec, size_code}
+use Rattle.hm_kernel_lang.specs.declared.machine.Item.TheVariants.{Plain}
+use Rattle.hm_kernel_lang.specs.declared.machine.Kind.TheVariants.{Store}
+use Rattle.hm_kernel_lang.specs.Machine.{IsWithin, View, exec, size_code}
 use Rattle.hm_kernel_lang.specs.Correct.{Reaches}
 use Rattle.hm_kernel_rows.specs.Shows.{Shows, size_of_type}
 use Rattle.hm_kernel_rows.specs.Standing.{Stands}

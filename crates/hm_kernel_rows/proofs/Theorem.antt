@@ -22,8 +22,11 @@ use Rattle.hm_kernel_lang.specs.declared.text.ElementType.TheVariants.{U8, S8, U
 use Rattle.hm_kernel_lang.specs.declared.text.Array.{Array}
 use Rattle.hm_kernel_lang.specs.declared.text.Text.{Text}
 use Rattle.hm_kernel_lang.specs.Language.{Bytes, address, first_memory, given, lines_steps, steps}
-use Rattle.hm_kernel_lang.specs.Machine.{Can, Clear, Do, Further, High, HighLength, Item, Kind, Load, Low, LowLength, Offset, Plain, Splat, Store, View, exec}
-use Rattle.hm_kernel_lang.specs.Machine.{item_halves}
+use Rattle.hm_kernel_lang.specs.declared.machine.Item.{Item}
+use Rattle.hm_kernel_lang.specs.declared.machine.Item.TheVariants.{Plain}
+use Rattle.hm_kernel_lang.specs.declared.machine.Kind.{Kind}
+use Rattle.hm_kernel_lang.specs.declared.machine.Kind.TheVariants.{Clear, Low, High, LowLength, HighLength, Offset, Splat, Load, Store, Do, Further}
+use Rattle.hm_kernel_lang.specs.Machine.{Can, View, exec, item_halves}
 use Rattle.hm_kernel_lang.specs.Code.{code}
 use Rattle.hm_kernel_lang.specs.Correct.{CodeStands, Reaches, Rows, and_then, goes}
 use Rattle.hm_kernel_lang.proofs.Lines.{lines_end}

@@ -1,4 +1,6 @@
+use Rattle.std.proofs.Common.{◌≡◌, ap, rules, ◌∙◌}
 use Rattle.std.specs.Prelude.{slice_index_or}
+use Rattle.hm_kernel_lang.specs.declared.text.Array.{Array}
 use Rattle.hm_kernel_lang.specs.Language.{address}
 use Rattle.hm_kernel_lang.proofs.Texts.{address_at}
 use Rattle.hm_kernel_code.proofs.Appending.{line_appended}
@@ -6,12 +8,15 @@ use Rattle.hm_kernel_code.proofs.lines.add_line.Goals as goal
 
 pub returns : goal.returns
 returns c =
-    let at = address c.args.arrays.now in
+    let x = c.args.text.now in
+    let xs = x.arrays.items in
+    let at = address xs in
     let l = c.args.line.now in
+    let a = c.index.result.now in
+    let is : slice_index_or xs l.array a ≡ a = search rules in
     record {
-      items = line_appended c.args.t at c.args.count c.loop_halves-halves.result (slice_index_or c.args.arrays.now l.array c.index-arrays-line.result).addr l
-          c.args.out.now.items c.add_begin.new.out.items
-          c.add_expression.new.out.items c.add_end.new.out.items c.add_end.result (c.loop_halves-halves.ensures.value at (at l.array))
-          (address_at c.args.arrays.now l.array c.index-arrays-line.result c.requires.set.target)
+      items = line_appended at x.count c.loop_halves-halves.result a.addr l c.args.out.now.items c.add_begin.new.out.items c.add_expression.new.out.items
+          c.add_end.new.out.items c.add_end.result (c.loop_halves-halves.ensures.value at (at l.array))
+          (address_at xs l.array a c.requires.set.target ∙ ap (λ (y : Array). y.addr) is)
           c.in_ok-add_begin.ensures.items c.in_ok-add_expression.ensures.items c.add_end.ensures.items;
     }
