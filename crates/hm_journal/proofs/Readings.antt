@@ -17,12 +17,12 @@ SomeOutcome bytes = (r : Result Journaled JournalErr) × IsReading bytes r
 
 module _ (bytes : List ℕ) (d : Data) (reads : Reads bytes d) where
   with_shape : (n : ℕ) → HasFormat d n → OrNone Journaled (λ j. d ≡ journal_data j) → SomeOutcome bytes
-  with_shape n has (inr never) = (Err err.Shape, (d, reads, (n, has), λ j sound is. never j is))
+  with_shape n has (inr never) = (Err err.Shape, (d, reads, ((n, has), λ j sound is. never j is)))
   with_shape n has (inl found) =
       let j = found.0 in
       elim (sound_or j) [
         | inl sound ↦ (Ok j, record { reads = subst (λ x. Reads bytes x) found.1 reads; sound = sound })
-        | inr never ↦ (Err err.Shape, (d, reads, (n, has), λ k sound is. never (subst IsJournal (one_journal k j (sym is ∙ found.1)) sound)))
+        | inr never ↦ (Err err.Shape, (d, reads, ((n, has), λ k sound is. never (subst IsJournal (one_journal k j (sym is ∙ found.1)) sound))))
       ]
 
   with_format : (o : Option ℕ) → number_at (codes "format") d ≡ o → SomeOutcome bytes
@@ -68,10 +68,10 @@ journal_format : (bytes : List ℕ) (j : Journaled) → IsJournalFile bytes j �
 journal_format bytes j file bad = bad.2 j.format (has_format bad.0 j file.sound (one_value bytes bad.0 (journal_data j) bad.1 file.reads))
 
 journal_shape : (bytes : List ℕ) (j : Journaled) → IsJournalFile bytes j → ¬ (IsNoShape bytes)
-journal_shape bytes j file bad = bad.3 j file.sound (one_value bytes bad.0 (journal_data j) bad.1 file.reads)
+journal_shape bytes j file bad = bad.2.1 j file.sound (one_value bytes bad.0 (journal_data j) bad.1 file.reads)
 
 format_shape : (bytes : List ℕ) → IsNoFormat bytes → ¬ (IsNoShape bytes)
-format_shape bytes bad other = bad.2 other.2.0 (subst (λ d. HasFormat d other.2.0) (one_value bytes other.0 bad.0 other.1 bad.1) other.2.1)
+format_shape bytes bad other = bad.2 other.2.0.0 (subst (λ d. HasFormat d other.2.0.0) (one_value bytes other.0 bad.0 other.1 bad.1) other.2.0.1)
 
 pub one_outcome : (bytes : List ℕ) (r s : Result Journaled JournalErr) → IsReading bytes r → IsReading bytes s → r ≡ s
 one_outcome bytes (Ok j) (Ok k) a b = ap Ok (one_journal j k (one_value bytes (journal_data j) (journal_data k) a.reads b.reads))

@@ -1,8 +1,5 @@
 -- The reports that a machine of a run gives.
 use Rattle.std.proofs.Common.{◌≡◌, ◌↔◌, ◌≤◌, ℕ, Bool, IsTrue, ap, sym, ◌∙◌, List, string_bytes}
-use Rattle.std.proofs.lemmas.Slice.Eq.{bytes_eq-Decides}
-use Rattle.std.specs.Bool.{Decides}
-use Rattle.std.specs.Str.{bytes_eq}
 use Rattle.hm_base.specs.Image.{Segment, flash_byte}
 use Rattle.hm_codes.specs.Listing.{Listing, IsListing}
 use Rattle.hm_handlers.specs.Runs.{run, run_out}
@@ -20,18 +17,12 @@ pub reported : (listing : Listing) (image : List Segment) (s : Sched) (t : ℕ) 
     → bytes ≡ report_text (timed_of m) → bytes ≡ report_at listing image s t
 reported listing image s t m bytes is shows e = e ∙ ap report_text (timed_is m (run listing image s t) (shows.now listing is))
 
--- a checkpoint is the run's where its tick is begun and its report is these bytes, which are the run's as the format has them
-pub of_run : (listing : Listing) (image : List Segment) (s : Sched) (format : ℕ) (x : Checkpoint) (bytes : List ℕ) (b : Bool)
+-- a checkpoint is the run's where its tick is begun and its report is what the format has of these bytes, which are the run's report there
+pub of_run : (listing : Listing) (image : List Segment) (s : Sched) (format : ℕ) (x : Checkpoint) (bytes text : List ℕ) (b : Bool)
     → x.tick ≤ (run_out listing image s).ticks
-    → bytes ≡ report_in format (report_at listing image s x.tick) → Decides b (bytes ≡ string_bytes x.report)
+    → bytes ≡ report_at listing image s x.tick → text ≡ string_bytes x.report → IsTrue b ↔ (text ≡ report_in format bytes)
     → IsTrue b ↔ IsOfRun listing image s format (checkpoint_of x)
-of_run listing image s format x bytes b begun is tells = (
-  λ same. record { begun = begun; report = sym (tells.0 same) ∙ is },
-  λ of. tells.1 (is ∙ sym of.report),
+of_run listing image s format x bytes text b begun is same tells = (
+  λ t. record { begun = begun; report = sym same ∙ tells.0 t ∙ ap (report_in format) is },
+  λ of. tells.1 (same ∙ of.report ∙ ap (report_in format) (sym is)),
 )
-
--- a test of two texts tells of what they are
-pub tells : (b : Bool) (xs ys u v : List ℕ) → b ≡ bytes_eq u v → u ≡ xs → v ≡ ys → Decides b (xs ≡ ys)
-tells b xs ys u v e p q =
-    let d = bytes_eq-Decides u v in
-    (λ t. sym p ∙ d.0 (sym e ∙ t) ∙ q, λ same. e ∙ d.1 (p ∙ same ∙ sym q))

@@ -9,13 +9,21 @@ use Rattle.hm_journal.specs.declared.journal.JournalErr.TheVariants as err
 abbrev pub IsNoJson : List ℕ → Type 0
 IsNoJson bytes = (d : Data) → ¬ (Reads bytes d)
 
+-- a value whose format is none that there is
+abbrev pub HasNoFormat : Data → Type 0
+HasNoFormat d = (n : ℕ) → ¬ (HasFormat d n)
+
+-- a value with a format that there is, which is no journal's
+abbrev pub HasNoShape : Data → Type 0
+HasNoShape d = ((n : ℕ) × HasFormat d n) × ((j : Journaled) → IsJournal j → ¬ (d ≡ journal_data j))
+
 -- JSON whose format is none that there is
 abbrev pub IsNoFormat : List ℕ → Type 0
-IsNoFormat bytes = (d : Data) × Reads bytes d × ((n : ℕ) → ¬ (HasFormat d n))
+IsNoFormat bytes = (d : Data) × Reads bytes d × HasNoFormat d
 
 -- JSON with a format that there is, which is no journal's
 abbrev pub IsNoShape : List ℕ → Type 0
-IsNoShape bytes = (d : Data) × Reads bytes d × ((n : ℕ) × HasFormat d n) × ((j : Journaled) → IsJournal j → ¬ (d ≡ journal_data j))
+IsNoShape bytes = (d : Data) × Reads bytes d × HasNoShape d
 
 -- what bytes come to, read as a journal: the journal, or why they are none
 abbrev pub IsReading : List ℕ → Result Journaled JournalErr → Type 0
@@ -31,3 +39,10 @@ IsReading bytes (Err err.OutOfMemory) = ⊥
 abbrev pub IsReadErr : List ℕ → JournalErr → Type 0
 IsReadErr bytes err.OutOfMemory = Unit {0}
 IsReadErr bytes e = IsReading bytes (Err e)
+
+-- what an error of reading a value tells: want of memory tells nothing
+abbrev pub IsValueErr : Data → JournalErr → Type 0
+IsValueErr d err.OutOfMemory = Unit {0}
+IsValueErr d err.Format = HasNoFormat d
+IsValueErr d err.Shape = HasNoShape d
+IsValueErr d e = ⊥

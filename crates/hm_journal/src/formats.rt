@@ -1,27 +1,24 @@
 //! Reports as journals of each format have them.
 
-ghost use Rattle.std.specs.Prelude.{◌≡◌, ◌≤◌, ◌++◌, take, drop, length, IfOk, IfNone, IfSome};
+ghost use Rattle.std.specs.Prelude.{◌≡◌, ◌↔◌, ◌≤◌, ◌++◌, take, drop, length, IsTrue};
 ghost use Rattle.hm_journal.specs.Formats.{behind_line, report_in, without_system};
 
 use crate::journal::FIRST_FORMAT;
-use hm_base::OutOfMemory;
 use hm_text_base::span;
-use std::alloc::Global;
 
-/// Where the first line begins that is the system's.
-fn system_at(report: &[u8]) -> Option<usize>
-    ensures none { IfNone result (without_system report.now ≡ report.now) }
-    ensures within { IfSome result (λ at. at ≤ length report.now) }
-    ensures some { IfSome result (λ at. without_system report.now ≡ take at report.now ++ behind_line (drop at report.now)) }
+/// Where the first line begins that is the system's, or the end where there is none.
+fn system_at(report: &[u8]) -> usize
+    ensures within { result ≤ length report.now }
+    ensures cut { without_system report.now ≡ take result report.now ++ behind_line (drop result report.now) }
 {
     let mut begins = true;
     for at in 0..report.len() {
         if begins && report[at..].starts_with(b"system ") {
-            return Some(at);
+            return at;
         }
         begins = report[at] == b'\n';
     }
-    None
+    report.len()
 }
 
 /// What stands behind the first end of a line.
@@ -35,26 +32,24 @@ fn behind_line(text: &[u8]) -> &[u8]
     &rest[1..]
 }
 
-/// A report without the system's line.
-fn without_system(alloc: Global, report: Vec<u8>) -> Result<Vec<u8>, OutOfMemory>
-    ensures text { IfOk result (λ text. text.items ≡ without_system report.items) }
+/// What a journal of a format has of a report, in two parts: up to the line that it lacks, and behind that.
+fn parts_in(format: u32, report: &[u8]) -> (&[u8], &[u8])
+    ensures value { report_in format report.now ≡ result.0.now ++ result.1.now }
 {
-    let Some(at) = system_at(&report) else {
-        return Ok(report);
-    };
-    let (before, line) = report.split_at(at);
-    let mut text = Vec::new(alloc);
-    text.extend_from_slice(before)?;
-    text.extend_from_slice(behind_line(line))?;
-    Ok(text)
+    if format != FIRST_FORMAT {
+        return report.split_at(report.len());
+    }
+    let (before, line) = report.split_at(system_at(report));
+    (before, behind_line(line))
 }
 
-/// What a journal of a format has of a report.
-pub fn report_in(alloc: Global, format: u32, report: Vec<u8>) -> Result<Vec<u8>, OutOfMemory>
-    ensures text { IfOk result (λ text. text.items ≡ report_in format report.items) }
+/// Whether a text is what a journal of a format has of a report.
+pub fn is_report(format: u32, report: &[u8], text: &[u8]) -> bool
+    ensures value { IsTrue result ↔ (text.now ≡ report_in format report.now) }
 {
-    if format == FIRST_FORMAT {
-        return without_system(alloc, report);
+    let (before, behind) = parts_in(format, report);
+    match text.strip_prefix(before) {
+        Some(rest) => rest == behind,
+        None => false,
     }
-    Ok(report)
 }

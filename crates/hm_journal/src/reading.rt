@@ -3,11 +3,13 @@
 ghost use Rattle.std.specs.Prelude.{◌≡◌, ◌↔◌, ℕ, ◌<◌, ◌≤◌, ◌^◌, length, List, map, None, Some, IfOk, IfErr, IfNone, IfSome, IsTrue, option_map};
 ghost use Rattle.std.specs.Prelude.{option_and_then};
 ghost use Rattle.serde_json.specs.Find.{as_array, get};
+ghost use Rattle.serde_json.specs.Data.{depth};
 ghost use Rattle.serde_json.specs.Errors.{IsMemory};
+ghost use Rattle.serde_json.specs.Read.{max_depth};
 ghost use Rattle.serde_json.specs.View.{items_view, view};
 ghost use Rattle.hm_journal.specs.Journals.{AreSmall, AreTicks, HasFormat, IsFormat, IsJournal, IsJournalFile, number_at, ReportAt, Journaled, journal_data};
 ghost use Rattle.hm_journal.specs.Journals.{checkpoint_data, most_checkpoints};
-ghost use Rattle.hm_journal.specs.Outcomes.{IsReadErr};
+ghost use Rattle.hm_journal.specs.Outcomes.{IsReadErr, IsValueErr};
 ghost use Rattle.hm_journal.specs.Views.{checkpoint_of, drafted};
 
 use crate::journal::{Checkpoint, Journal, JournalErr, MOST_CHECKPOINTS};
@@ -129,28 +131,33 @@ fn format_in(value: &Value) -> Option<u32>
     }
 }
 
-/// Reads a journal. Json exactly where the bytes have no reading as JSON, else Format exactly where `format` is neither the number 1 nor the number
-/// 2, and else Shape exactly where no journal has this value.
-pub fn read_journal(alloc: Global, bytes: &[u8]) -> Result<Journal, JournalErr>
-    ensures found { IfOk result (λ j. IsJournalFile bytes.now j) }
-    ensures refused { IfErr result (λ e. IsReadErr bytes.now e) }
+/// Whether a draft is a journal, and the value that journal's JSON.
+fn is_written(alloc: Global, value: &Value, d: &Draft) -> Result<bool, AllocError>
+    requires nests { depth (view value.now) ≤ max_depth }
+    requires format { IsFormat d.now.format }
+    ensures told { IfOk result (λ b. IsTrue b ↔ (IsJournal (drafted d.now) × (view value.now ≡ journal_data (drafted d.now)))) }
 {
-    let value = match Value::from_slice(alloc, bytes) {
-        Ok(value) => value,
-        Err(e) => return Err(refusal(&e)),
-    };
-    let Some(format) = format_in(&value) else {
-        return Err(JournalErr::Format);
-    };
-    let Some(d) = draft_in(alloc, &value, format)? else {
-        return Err(JournalErr::Shape);
-    };
-    if !is_journal(&d) {
-        return Err(JournalErr::Shape);
+    if !is_journal(d) {
+        return Ok(false);
     }
     let text = value.to_string(alloc)?;
     let own = journal_text(alloc, d.format, d.every, &d.checkpoints)?;
-    if text.as_bytes() != own.as_bytes() {
+    Ok(text.as_bytes() == own.as_bytes())
+}
+
+/// The journal whose JSON a value is.
+fn journal_in(alloc: Global, value: &Value) -> Result<Journal, JournalErr>
+    requires nests { depth (view value.now) ≤ max_depth }
+    ensures found { IfOk result (λ j. IsJournal j × (view value.now ≡ journal_data j)) }
+    ensures refused { IfErr result (λ e. IsValueErr (view value.now) e) }
+{
+    let Some(format) = format_in(value) else {
+        return Err(JournalErr::Format);
+    };
+    let Some(d) = draft_in(alloc, value, format)? else {
+        return Err(JournalErr::Shape);
+    };
+    if !is_written(alloc, value, &d)? {
         return Err(JournalErr::Shape);
     }
     Ok(Journal {
@@ -158,6 +165,18 @@ pub fn read_journal(alloc: Global, bytes: &[u8]) -> Result<Journal, JournalErr>
         every: d.every,
         checkpoints: d.checkpoints,
     })
+}
+
+/// Reads a journal. Json exactly where the bytes have no reading as JSON, else Format exactly where `format` is neither the number 1 nor the number
+/// 2, and else Shape exactly where no journal has this value.
+pub fn read_journal(alloc: Global, bytes: &[u8]) -> Result<Journal, JournalErr>
+    ensures found { IfOk result (λ j. IsJournalFile bytes.now j) }
+    ensures refused { IfErr result (λ e. IsReadErr bytes.now e) }
+{
+    match Value::from_slice(alloc, bytes) {
+        Ok(value) => journal_in(alloc, &value),
+        Err(e) => Err(refusal(&e)),
+    }
 }
 
 /// What an error of the reader is here.

@@ -9,19 +9,19 @@ ghost use Rattle.hm_journal.specs.Views.{checkpoint_of};
 ghost use Rattle.hm_machine.specs.Taped.{Tapes};
 ghost use Rattle.hm_sched.specs.Schedule.{Sched, most_ticks, ticks_of};
 
-use crate::formats::report_in;
+use crate::formats::is_report;
 use crate::journal::{Checkpoint, FORMAT, Journal, JournalErr, MOST_CHECKPOINTS};
 use crate::writing::journal_text;
+use hm_base::OutOfMemory;
 use hm_machine::Tape;
 use std::alloc::Global;
 
 /// The report at a tick that the run begins.
-fn report_at(alloc: Global, tape: &mut Tape, tick: u32) -> Result<String, JournalErr>
+fn report_at(alloc: Global, tape: &mut Tape, tick: u32) -> Result<String, OutOfMemory>
     requires { tick ≤ tape.old.last }
     ensures stays { tape.new ≡ tape.old }
     ensures report { IfOk result (λ r. (image : List Segment) (s : Sched) (listing : Listing) → IsListing (flash_byte image) listing → Tapes image s tape.old
         → string_bytes r ≡ report_at listing image s tick) }
-    ensures memory { IfErr result (λ e. e ≡ JournalErr.OutOfMemory) }
 {
     let Ok(machine) = tape.at(tick) else {
         unreachable!()
@@ -34,13 +34,12 @@ fn report_at(alloc: Global, tape: &mut Tape, tick: u32) -> Result<String, Journa
 }
 
 /// The checkpoints of the run.
-fn checkpoints(alloc: Global, tape: &mut Tape, every: u32) -> Result<Vec<Checkpoint>, JournalErr>
+fn checkpoints(alloc: Global, tape: &mut Tape, every: u32) -> Result<Vec<Checkpoint>, OutOfMemory>
     requires { 1 ≤ every }
     ensures stays { tape.new ≡ tape.old }
     ensures checkpoints { IfOk result
         (λ v. (image : List Segment) (s : Sched) (listing : Listing) → IsListing (flash_byte image) listing → Tapes image s tape.old
         → map checkpoint_of v.items ≡ (journal_of listing image s every).checkpoints) }
-    ensures memory { IfErr result (λ e. e ≡ JournalErr.OutOfMemory) }
 {
     let last = tape.last() as u64;
     let step = every as u64;
@@ -81,18 +80,16 @@ fn is_of_run(
     format: u32,
     x: &Checkpoint,
     tape: &mut Tape,
-) -> Result<bool, JournalErr>
+) -> Result<bool, OutOfMemory>
     ensures stays { tape.new ≡ tape.old }
     ensures told { IfOk result (λ b. (image : List Segment) (s : Sched) (listing : Listing) → IsListing (flash_byte image) listing → Tapes image s tape.old
         → (IsTrue b ↔ IsOfRun listing image s format (checkpoint_of x.now))) }
-    ensures memory { IfErr result (λ e. e ≡ JournalErr.OutOfMemory) }
 {
     let Ok(machine) = tape.at(x.tick) else {
         return Ok(false);
     };
     let report = machine.report(alloc)?;
-    let text = report_in(alloc, format, report)?;
-    Ok(text.as_slice() == x.report.as_bytes())
+    Ok(is_report(format, &report, x.report.as_bytes()))
 }
 
 /// Whether checkpoints of a journal of a format are the run's.

@@ -1,8 +1,8 @@
-use Rattle.std.proofs.Common.{◌≡◌, ◌++◌, [], ◌∷◌, None, Some, ap, sym, ◌∙◌, map, option_map}
-use Rattle.std.proofs.lemmas.List.{map_push}
+use Rattle.std.proofs.Common.{◌≡◌, ◌++◌, [], ◌∷◌, List, None, Some, ap, arith, sym, ◌∙◌, length, map, option_map}
+use Rattle.std.proofs.lemmas.List.{length-map, map_push, take_all}
 use Rattle.serde_json.specs.View.{view}
 use Rattle.hm_journal.proofs.Pairs.{beside, take_more}
-use Rattle.hm_journal.specs.Journals.{checkpoint_data}
+use Rattle.hm_journal.specs.Journals.{ReportAt, checkpoint_data}
 use Rattle.hm_journal.specs.Views.{checkpoint_of}
 use Rattle.hm_journal.proofs.reading.checkpoints_in.Goals as goal
 
@@ -22,3 +22,9 @@ loop-value-preserved c xs fits e =
     let before = c.loop-value.invariant xs fits e in
     ap (map checkpoint_of) c.in_ok-push-in-Some.ensures.items ∙ map_push checkpoint_of c.loop-value.checkpoints.items c.in-Some.x
     ∙ (λ j. before j ++ same j ∷ []) ∙ sym (take_more xs c.loop-value.value-index b.0 b.1)
+
+pub returns : goal.returns
+returns c xs fits e =
+    let long = c.loop-value-test.false in
+    let size : length c.args.values.now ≡ length xs = sym (length-map c.args.values.now view) ∙ ap length e ∙ length-map xs checkpoint_data in
+    ap (λ (l : List ReportAt). Some l) (c.loop-value.invariant xs fits e ∙ take_all c.loop-value.value-index xs (omega (arith, long, size)))
