@@ -1,6 +1,6 @@
 -- Bytes of memory as a machine tells them, and lines of them.
-use Rattle.std.proofs.Common.{◌≡◌, ℕ, suc, ◌+◌, ◌-◌, ◌*◌, ◌/◌, ◌<◌, ap, arith, refl, sym, ◌∙◌, Bool, true, false, ◌&&◌, cond, List, ◌++◌, append_assoc, min}
-use Rattle.std.proofs.Common.{nat_lt, slice_index, Option, Some, None, is_some, is_none}
+use Rattle.std.proofs.Common.{◌≡◌, ℕ, suc, ◌+◌, ◌-◌, ◌*◌, ◌/◌, ◌<◌, ◌≤◌, ap, arith, refl, sym, ◌∙◌, Bool, true, false, ◌&&◌, cond, List, ◌++◌}
+use Rattle.std.proofs.Common.{append-nil, append_assoc, nat_lt, slice_index, Option, Some, None, is_some, is_none, min}
 use Rattle.std.proofs.lemmas.Bool.{and_parts}
 use Rattle.hm_base.specs.Image.{flash_size, in_sram, sram_start}
 use Rattle.hm_debug.specs.Lines.{all_mapped, bytes_text, is_mapped, memory_line, memory_lines}
@@ -97,3 +97,14 @@ rows_on s addr len row count out new all below is added left =
         let a : (addr + row * 16) + 16 ≡ addr + (row + 1) * 16 = omega arith in
         let l : (len - row * 16) - 16 ≡ len - (row + 1) * 16 = omega arith in
         ap (memory_lines s (addr + row * 16) (len - row * 16)) e ∙ (λ i. memory_line s (addr + row * 16) (sym is i) ++ memory_lines s (a i) (l i) j)
+
+-- NONE are left
+pub bytes_none : (s : State) (a count k : ℕ) (out all : List ℕ) → count ≤ k → out ++ bytes_text s a (count - k) ≡ all → out ≡ all
+bytes_none s a count k out all past left =
+    let none : count - k ≡ 0 = omega arith in
+    sym (append-nil out) ∙ ap (λ (n : ℕ). out ++ bytes_text s a n) (sym none) ∙ left
+
+pub rows_none : (s : State) (a len rows k : ℕ) (out all : List ℕ) → rows ≤ k → out ++ memory_lines s a len (rows - k) ≡ all → out ≡ all
+rows_none s a len rows k out all past left =
+    let none : rows - k ≡ 0 = omega arith in
+    sym (append-nil out) ∙ ap (λ (n : ℕ). out ++ memory_lines s a len n) (sym none) ∙ left

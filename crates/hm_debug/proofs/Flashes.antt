@@ -76,3 +76,10 @@ lines_on flash listing a count k next out new all below few listed (e, is, text,
 
 pub lines_done : (flash : ℕ → ℕ) (listing : Listing) (a n : ℕ) (out all : List ℕ) → flash_size ≤ a → out ++ listing_lines flash listing a n ≡ all → out ≡ all
 lines_done flash listing a n out all past left = sym (append-nil out) ∙ ap (λ (t : List ℕ). out ++ t) (sym (lines_end flash listing a n past)) ∙ left
+
+-- none are left
+pub lines_none : (flash : ℕ → ℕ) (listing : Listing) (a count k : ℕ) (out all : List ℕ) → count ≤ k → out ++ listing_lines flash listing a (count - k) ≡ all
+    → out ≡ all
+lines_none flash listing a count k out all past left =
+    let none : count - k ≡ 0 = omega arith in
+    sym (append-nil out) ∙ ap (λ (n : ℕ). out ++ listing_lines flash listing a n) (sym none) ∙ left

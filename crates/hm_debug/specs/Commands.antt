@@ -39,6 +39,17 @@ Fits Show = Unit {0}
 Fits (Memory addr len) = (addr + len ≤ 2 ^ 32) × (0 < len) × (len ≤ most_bytes)
 Fits (Listing addr count) = (addr % 2 ≡ 0) × (addr < flash_size) × (0 < count) × (count ≤ most_listed)
 
+-- a command without numbers, which is a word alone
+abbrev pub IsPlain : Command → Type 0
+IsPlain Step = Unit {0}
+IsPlain Back = Unit {0}
+IsPlain Show = Unit {0}
+IsPlain c = ⊥
+
+-- a line that is the word of no such command
+abbrev pub IsNoPlain : List ℕ → Type 0
+IsNoPlain line = (c : Command) → IsPlain c → ¬ (line ≡ command_text c)
+
 -- a line says a command
 pub record Says (line : List ℕ) (c : Command) : Type 0 where
   pub reads : line ≡ command_text c

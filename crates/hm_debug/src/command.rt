@@ -1,7 +1,7 @@
 //! What a line of a script says.
 
-ghost use Rattle.std.specs.Prelude.{◌≡◌, ◌<◌, ◌++◌, ◌^◌, ◌↔◌, ℕ, codes, IfSome, IsTrue, Some};
-ghost use Rattle.hm_debug.specs.Commands.{Fits, IsRead, Says, range_text};
+ghost use Rattle.std.specs.Prelude.{◌≡◌, ◌<◌, ◌++◌, ◌^◌, ◌↔◌, ℕ, codes, IfNone, IfSome, IsTrue, Some};
+ghost use Rattle.hm_debug.specs.Commands.{Fits, IsNoPlain, IsRead, Says, range_text};
 ghost use Rattle.hm_debug.specs.declared.command.Command.{Command};
 
 use hm_base::FLASH_SIZE;
@@ -95,9 +95,10 @@ fn read_listing(text: &[u8]) -> Option<Command>
     Some(Command::Listing { addr, count })
 }
 
-/// What a line is read as by its first word.
-fn read_words(text: &[u8]) -> Option<Command>
-    ensures read { IsRead text.now result }
+/// The command of a word alone that a line is.
+fn read_plain(text: &[u8]) -> Option<Command>
+    ensures some { IfSome result (λ c. IsRead text.now (Some c)) }
+    ensures none { IfNone result (IsNoPlain text.now) }
 {
     if text == b"step".as_slice() {
         return Some(Command::Step);
@@ -108,6 +109,14 @@ fn read_words(text: &[u8]) -> Option<Command>
     if text == b"show".as_slice() {
         return Some(Command::Show);
     }
+    None
+}
+
+/// What a line that is no word alone is read as, by its first word and the numbers behind it.
+fn read_numbered(text: &[u8]) -> Option<Command>
+    requires other { IsNoPlain text.now }
+    ensures read { IsRead text.now result }
+{
     if let Some(rest) = text.strip_prefix(b"goto ") {
         return read_goto(rest);
     }
@@ -121,6 +130,16 @@ fn read_words(text: &[u8]) -> Option<Command>
         return read_listing(rest);
     }
     None
+}
+
+/// What a line is read as by its first word.
+fn read_words(text: &[u8]) -> Option<Command>
+    ensures read { IsRead text.now result }
+{
+    match read_plain(text) {
+        Some(command) => Some(command),
+        None => read_numbered(text),
+    }
 }
 
 /// What a line says, where it says a command.

@@ -1,7 +1,8 @@
 //! Going to a tick of the run, and the line that names it.
 
-ghost use Rattle.std.specs.Prelude.{◌≡◌, ◌+◌, ◌-◌, ◌≤◌, ◌&&◌, nat_eq, IfOk, IfSome};
-ghost use Rattle.hm_debug.specs.Answers.{Gives, at_end, at_tick, found_or_end, next_at, reaches, to_tick};
+ghost use Rattle.std.specs.Prelude.{◌≡◌, ◌+◌, ◌-◌, ◌≤◌, ◌++◌, ◌&&◌, codes, nat_eq, IfOk, IfSome};
+ghost use Rattle.std.specs.Fmt.{decimal};
+ghost use Rattle.hm_debug.specs.Answers.{Gives, at_end, at_tick, found_or_end, next_at, reaches, stay, to_tick};
 ghost use Rattle.hm_debug.specs.Films.{Film, IsFilm, ShowsTick};
 ghost use Rattle.hm_machine.specs.Shown.{timed_of};
 ghost use Rattle.hm_machine.specs.TapeLending.{TapeStays};
@@ -25,24 +26,28 @@ pub fn machine_at(tape: &mut Tape, tick: u32) -> &Machine
     }
 }
 
+/// Adds a line of words and of a tick, and answers that tick.
+fn tell(alloc: Global, out: &mut Vec<u8>, words: &[u8], tick: u32) -> Result<u32, OutOfMemory>
+    ensures gives { IfOk result (λ place. Gives (stay tick (words.now ++ decimal tick ++ codes "\n")) out.old.items out.new.items place) }
+{
+    text(out, words)?;
+    decimal(alloc, out, u64::from(tick))?;
+    text(out, b"\n")?;
+    Ok(tick)
+}
+
 /// Adds the line of a tick, and answers that tick.
 pub fn tell_tick(alloc: Global, out: &mut Vec<u8>, tick: u32) -> Result<u32, OutOfMemory>
     ensures gives { IfOk result (λ place. Gives (at_tick tick) out.old.items out.new.items place) }
 {
-    text(out, b"tick ")?;
-    decimal(alloc, out, u64::from(tick))?;
-    text(out, b"\n")?;
-    Ok(tick)
+    tell(alloc, out, b"tick ", tick)
 }
 
 /// Adds the line of the last tick, where none is as was asked for, and answers that tick.
 fn tell_end(alloc: Global, out: &mut Vec<u8>, last: u32) -> Result<u32, OutOfMemory>
     ensures gives { IfOk result (λ place. Gives (at_end last) out.old.items out.new.items place) }
 {
-    text(out, b"end ")?;
-    decimal(alloc, out, u64::from(last))?;
-    text(out, b"\n")?;
-    Ok(last)
+    tell(alloc, out, b"end ", last)
 }
 
 /// Goes to a tick of a run, or to its last one.

@@ -1,16 +1,14 @@
 //! Doing a script: each command, at the place where the one before it left off.
 
-ghost use Rattle.std.specs.Prelude.{◌≡◌, ◌+◌, ◌/◌, ◌≤◌, ◌++◌, List, IfOk, IfErr, OnOk};
+ghost use Rattle.std.specs.Prelude.{◌≡◌, ◌≤◌, List, IfOk, IfErr, OnOk};
 ghost use Rattle.hm_base.specs.Image.{Segment, flash_byte};
 ghost use Rattle.hm_codes.specs.Listing.{IsListing, Listing};
 ghost use Rattle.hm_debug.specs.Answers.{Gives, IsAnswered, answer, answers};
 ghost use Rattle.hm_debug.specs.Commands.{Fits, Says};
 ghost use Rattle.hm_debug.specs.Films.{Film, IsFilm, film_of};
-ghost use Rattle.hm_debug.specs.Lines.{listing_lines, memory_lines};
 ghost use Rattle.hm_debug.specs.Scripts.{IsScript, SayAll, ScriptStops};
 ghost use Rattle.hm_debug.specs.declared.command.Command.{Command};
 ghost use Rattle.hm_machine.specs.Taped.{Tapes};
-ghost use Rattle.hm_run.specs.Report.{report_text};
 ghost use Rattle.hm_sched.specs.Schedule.{Sched};
 ghost use Rattle.hm_text_base.specs.Spans.{lines_of};
 
@@ -25,47 +23,55 @@ use hm_machine::Tape;
 use hm_text_base::text;
 use std::alloc::Global;
 
-/// Adds the report at a tick.
-fn show(alloc: Global, out: &mut Vec<u8>, tape: &mut Tape, tick: u32) -> Result<(), OutOfMemory>
+/// Adds the report at a tick, and answers that tick.
+fn show(alloc: Global, out: &mut Vec<u8>, tape: &mut Tape, tick: u32) -> Result<u32, OutOfMemory>
     requires within { tick ≤ tape.old.last }
     ensures stays { tape.new ≡ tape.old }
-    ensures added { (f : Film) → IsFilm f tape.old → IfOk result (λ _. out.new.items ≡ out.old.items ++ report_text (f.at tick)) }
+    ensures within { IfOk result (λ place. place ≤ tape.old.last) }
+    ensures gives { (f : Film) → IsFilm f tape.old
+        → IfOk result (λ place. Gives (answer f Command.Show tick) out.old.items out.new.items place) }
 {
     let report = machine_at(tape, tick).report(alloc)?;
-    text(out, &report)
+    text(out, &report)?;
+    Ok(tick)
 }
 
-/// Adds bytes of memory at a tick.
+/// Adds bytes of memory at a tick, and answers that tick.
 fn show_memory(
     out: &mut Vec<u8>,
     tape: &mut Tape,
     addr: u32,
     len: u32,
     tick: u32,
-) -> Result<(), OutOfMemory>
+) -> Result<u32, OutOfMemory>
     requires fits { Fits (Command.Memory addr len) }
     requires within { tick ≤ tape.old.last }
     ensures stays { tape.new ≡ tape.old }
-    ensures added { (f : Film) → IsFilm f tape.old
-        → IfOk result (λ _. out.new.items ≡ out.old.items ++ memory_lines (f.at tick).config.state addr len ((len + 15) / 16)) }
+    ensures within { IfOk result (λ place. place ≤ tape.old.last) }
+    ensures gives { (f : Film) → IsFilm f tape.old
+        → IfOk result (λ place. Gives (answer f (Command.Memory addr len) tick) out.old.items out.new.items place) }
 {
-    add_memory(out, machine_at(tape, tick), addr, len)
+    add_memory(out, machine_at(tape, tick), addr, len)?;
+    Ok(tick)
 }
 
-/// Adds lines of the listing, told at a tick: no tick changes flash.
+/// Adds lines of the listing, told at a tick, and answers that tick: no tick changes flash.
 fn show_listing(
     out: &mut Vec<u8>,
     tape: &mut Tape,
     addr: u32,
     count: u32,
     tick: u32,
-) -> Result<(), OutOfMemory>
+) -> Result<u32, OutOfMemory>
     requires fits { Fits (Command.Listing addr count) }
     requires within { tick ≤ tape.old.last }
     ensures stays { tape.new ≡ tape.old }
-    ensures added { (f : Film) → IsFilm f tape.old → IfOk result (λ _. out.new.items ≡ out.old.items ++ listing_lines f.flash f.listing addr count) }
+    ensures within { IfOk result (λ place. place ≤ tape.old.last) }
+    ensures gives { (f : Film) → IsFilm f tape.old
+        → IfOk result (λ place. Gives (answer f (Command.Listing addr count) tick) out.old.items out.new.items place) }
 {
-    add_listing(out, machine_at(tape, tick), addr, count)
+    add_listing(out, machine_at(tape, tick), addr, count)?;
+    Ok(tick)
 }
 
 /// Does a command at a place: adds its answer, and gives the place after it.
@@ -82,23 +88,15 @@ fn answer(
     ensures within { IfOk result (λ next. next ≤ tape.old.last) }
     ensures gives { (f : Film) → IsFilm f tape.old → IfOk result (λ next. Gives (answer f command place) out.old.items out.new.items next) }
 {
+    let last = tape.last();
     match command {
-        Command::Goto { tick } => go_to(alloc, out, tape.last(), tick),
-        Command::Step => go_to(alloc, out, tape.last(), place + 1),
+        Command::Goto { tick } => go_to(alloc, out, last, tick),
+        Command::Step => go_to(alloc, out, last, place + 1),
         Command::Back => tell_tick(alloc, out, place.saturating_sub(1)),
         Command::Until { addr } => go_until(alloc, out, tape, addr, place),
-        Command::Show => {
-            show(alloc, out, tape, place)?;
-            Ok(place)
-        }
-        Command::Memory { addr, len } => {
-            show_memory(out, tape, addr, len, place)?;
-            Ok(place)
-        }
-        Command::Listing { addr, count } => {
-            show_listing(out, tape, addr, count, place)?;
-            Ok(place)
-        }
+        Command::Show => show(alloc, out, tape, place),
+        Command::Memory { addr, len } => show_memory(out, tape, addr, len, place),
+        Command::Listing { addr, count } => show_listing(out, tape, addr, count, place),
     }
 }
 

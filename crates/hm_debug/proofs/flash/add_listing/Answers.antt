@@ -2,7 +2,7 @@ use Rattle.std.proofs.Common.{ℕ, ◌≤◌, ◌-◌, ap, arith, subst}
 use Rattle.hm_base.specs.Image.{flash_size}
 use Rattle.hm_listing.proofs.LinesLeft.{IsAdded}
 use Rattle.hm_mem.specs.Memory.{Memory, flash_at}
-use Rattle.hm_debug.proofs.Flashes.{lines_done, lines_on}
+use Rattle.hm_debug.proofs.Flashes.{lines_done, lines_none, lines_on}
 use Rattle.hm_debug.proofs.flash.add_listing.Goals as goal
 
 pub returns-then-at-eq-FLASH_SIZE : goal.returns-then-at-eq-FLASH_SIZE
@@ -24,3 +24,9 @@ lines-preserved c =
           lines_on (flash_at c.args.machine.now.memory) listing c.lines.at c.args.count c.lines._line c.in_ok-at.at _ _ _ (omega arith) c.lines-test.true listed
           added (c.lines.invariant.left listing listed);
     }
+
+pub returns : goal.returns
+returns c = record {
+  added = λ listing listed. lines_none (flash_at c.args.machine.now.memory) listing c.lines.at c.args.count c.lines._line _ _ c.lines-test.false
+      (c.lines.invariant.left listing listed);
+}

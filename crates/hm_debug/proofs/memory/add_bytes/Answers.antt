@@ -1,5 +1,6 @@
 use Rattle.std.proofs.Common.{◌≡◌, ◌+◌, rules, ◌∙◌, ap, is_some, Some}
-use Rattle.hm_debug.proofs.Bytes.{bytes_on, mapped_here}
+use Rattle.hm_debug.proofs.Bytes.{bytes_none, bytes_on, mapped_here}
+use Rattle.hm_machine.specs.Shown.{timed_of}
 use Rattle.hm_mem.specs.Memory.{told_at}
 use Rattle.hm_debug.proofs.memory.add_bytes.Goals as goal
 
@@ -17,3 +18,9 @@ loop-k-preserved c =
       left = bytes_on m.regs m.memory m.output c.args.at c.args.count c.loop-k.k c.unwrap-byte.result _ _ _ c.loop-k-test.true told c.in_ok-hex2.ensures
           c.loop-k.invariant.left;
     }
+
+pub returns : goal.returns
+returns c = record {
+  added = bytes_none (timed_of c.args.machine.now).config.state (c.args.at + c.loop-k.k) c.args.count c.loop-k.k _ _ c.loop-k-test.false
+      c.loop-k.invariant.left;
+}
