@@ -1,37 +1,31 @@
 //! The plan, tick by tick.
 
-ghost use Rattle.std.specs.Prelude.{◌≡◌, ℕ, ◌+◌, ◌*◌, ◌%◌, ◌≤◌, false, None, [], ◌∷◌, List, drop, length, IfOk, IfErr};
+ghost use Rattle.std.specs.Prelude.{◌≡◌, ℕ, ◌+◌, ◌-◌, ◌*◌, ◌%◌, ◌<◌, ◌≤◌, false, true, None, [], ◌∷◌, List, drop, length, IfOk, IfErr, OnOk};
 ghost use Rattle.std.specs.Option.{is_some};
-ghost use Rattle.hm_base.specs.Image.{flash_byte};
+ghost use Rattle.hm_base.specs.Image.{Segment, flash_byte};
 ghost use Rattle.hm_codes.specs.Listing.{Listing, IsListing};
 ghost use Rattle.hm_machine.specs.Bares.{IsBare};
 ghost use Rattle.hm_machine.specs.Shown.{run_of};
 ghost use Rattle.hm_machine.specs.Calls.{LoadRefuses};
 ghost use Rattle.hm_mem.specs.Memory.{flash_at};
+ghost use Rattle.hm_plan.specs.Follows.{Follow};
 ghost use Rattle.hm_plan_laws.specs.Ends.{DecidedBy, EndsAs, IsGreedyAt, IsPlanEnd};
 ghost use Rattle.hm_plan_laws.specs.Greedy.{greedy_at};
-ghost use Rattle.hm_plan_laws.specs.Planned.{is_over, plan_line, planned};
+ghost use Rattle.hm_plan_laws.specs.Planned.{grown, is_over, plan_line, planned};
 ghost use Rattle.hm_run.specs.Bare.{bare, bare_program};
 ghost use Rattle.hm_run.specs.InOrder.{in_order};
-ghost use Rattle.hm_run.specs.Program.{vector_in, vector_of};
+ghost use Rattle.hm_run.specs.Program.{vector_of};
 ghost use Rattle.hm_handlers.specs.Runs.{run, shown_out, tick};
-ghost use Rattle.hm_sched.specs.Schedule.{TickLine, older_letter, ticks_of};
+ghost use Rattle.hm_sched.specs.Schedule.{TickLine, most_ticks, older_letter, ticks_of};
 ghost use Rattle.hm_state.specs.Start.{reset_pc};
 
 use crate::lines::{Lines, letters};
-use hm_base::{Image, SRAM_START};
+use hm_base::{Image, OutOfMemory, SRAM_START};
 use hm_isa::Instr;
 use hm_machine::{LoadErr, Machine};
 use hm_plan_laws::{Greedy, open_runs, plan_in_order};
 use hm_sched::Schedule;
 use std::alloc::Global;
-
-/// Whether an instruction is done by beats.
-fn is_vector(i: &Instr) -> bool
-    ensures value { result ≡ is_some (vector_in i.now) }
-{
-    matches!(i, Instr::Vector(_))
-}
 
 /// Whether a vector instruction stands at the program counter.
 fn has_row(machine: &Machine) -> bool
@@ -39,7 +33,7 @@ fn has_row(machine: &Machine) -> bool
         → result ≡ is_some (vector_of (listing (run_of machine.now []).machine.config.state.pc)) }
 {
     match machine.instr(machine.regs().pc) {
-        Some(i) => is_vector(&i),
+        Some(i) => matches!(i, Instr::Vector(_)),
         None => false,
     }
 }
@@ -63,6 +57,22 @@ fn greedy(machine: &mut Machine, n: u32) -> Greedy
     } else {
         Greedy::One
     }
+}
+
+/// Does the next tick of a plan of n instructions, and tells what it did.
+fn go_on(machine: &mut Machine, n: u32) -> Greedy
+    requires bare { IsBare machine.old }
+    requires goes { is_over n (run_of machine.old []) ≡ false }
+    requires ticks { machine.old.ticks < most_ticks - 1 }
+    ensures value { (listing : Listing) → IsListing (flash_at machine.old.memory) listing
+        → result ≡ greedy_at (bare_program listing) n (run_of machine.old []).machine.config }
+    ensures next { (listing : Listing) → IsListing (flash_at machine.old.memory) listing → run_of machine.new [] ≡ grown listing n (run_of machine.old []) }
+    ensures flash { flash_at machine.new.memory ≡ flash_at machine.old.memory }
+    ensures bare { IsBare machine.new }
+{
+    let kind = greedy(machine, n);
+    machine.extend(letters(kind));
+    kind
 }
 
 /// Whether a plan of n instructions is at its end.
@@ -111,17 +121,27 @@ fn build(alloc: Global, image: &Image, n: u32) -> Result<Schedule, LoadErr>
     if is_over(&machine, n) {
         return Ok(schedule);
     }
-    let first = greedy(&mut machine, n);
+    let kind = go_on(&mut machine, n);
     let mut lines = Lines {
         schedule,
-        kind: first,
+        kind,
         count: 1,
     };
-    machine.extend(letters(first));
-    while !is_over(&machine, n) {
-        let kind = greedy(&mut machine, n);
+    fill(&mut lines, &mut machine, n)?;
+    lines.write()?;
+    Ok(lines.schedule)
+}
+
+/// Adds a tick to the lines of a plan of n instructions for each that the machine goes on, up to the plan's end.
+fn fill(lines: &mut Lines, machine: &mut Machine, n: u32) -> Result<(), OutOfMemory>
+    requires few { n ≤ 262144 }
+    requires follow { (image : List Segment) × Follow image n lines.old machine.old }
+    ensures follow { OnOk result ((image : List Segment) → Follow image n lines.old machine.old → Follow image n lines.new machine.new) }
+    ensures over { OnOk result (is_over n (run_of machine.new []) ≡ true) }
+{
+    while !is_over(machine, n) {
+        let kind = go_on(machine, n);
         lines.push(kind)?;
-        machine.extend(letters(kind));
     }
-    Ok(lines.finish()?)
+    Ok(())
 }
