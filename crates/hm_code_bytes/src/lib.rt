@@ -3,7 +3,7 @@
 #![tactic(auto)]
 
 ghost use Rattle.std.specs.Prelude.{◌≡◌, ◌++◌, [], ◌∷◌, IfOk};
-ghost use Rattle.hm_code_bytes.specs.Bytes.{all_halves, code_bytes, half_bytes, word_bytes};
+ghost use Rattle.hm_code_bytes.specs.Bytes.{code_bytes, half_bytes, word_bytes};
 ghost use Rattle.hm_isa.specs.Code.{halfwords, two_halves};
 
 pub mod rows;
@@ -68,15 +68,5 @@ pub fn add_code(out: &mut Vec<u8>, i: &Instr) -> Result<(), OutOfMemory>
 {
     let code = code_bytes(i);
     out.extend_from_slice(code.as_slice())?;
-    Ok(())
-}
-
-/// Adds the codes of instructions one behind another.
-pub fn add_codes(out: &mut Vec<u8>, instrs: &[Instr]) -> Result<(), OutOfMemory>
-    ensures added { IfOk result (λ _. out.new.items ≡ out.old.items ++ half_bytes (all_halves instrs.now)) }
-{
-    for i in instrs {
-        add_code(out, i)?;
-    }
     Ok(())
 }

@@ -10,11 +10,11 @@ pub enum Kind {
     Clear,
     /// An address or a constant is this number of 16 bits.
     Low(u32),
-    /// Its high halfword is this number.
+    /// The high halfword of an address or a constant is this number, and the low one stays.
     High(u32),
     /// The number of elements is this number of 16 bits.
     LowLength(u32),
-    /// Its high halfword is this number.
+    /// The high halfword of the number of elements is this number, and the low one stays.
     HighLength(u32),
     /// The offset is added to the address.
     Offset,

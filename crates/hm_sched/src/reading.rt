@@ -20,7 +20,7 @@ use std::alloc::Global;
 /// The first address past SRAM.
 const SRAM_END: u32 = SRAM_START + SRAM_SIZE;
 
-/// The refusal of a line that is bad in itself.
+/// The refusal of a line, for what it should be.
 fn refused(line: u32, kind: LineKind) -> SchedErr
     ensures { result ≡ SchedErr.Line line kind }
 {
