@@ -19,8 +19,8 @@ use Rattle.hm_source.specs.Directives.{Datum, Directed, org, align, space, value
 use Rattle.hm_source.specs.Lines.{name_of, text_of, text_column, shifted}
 use Rattle.hm_source.specs.Places.{HasPlace, HasRoom, next_place, padding, size_asked, size_of}
 use Rattle.hm_source.specs.Statements.{Said, nothing, instruction, directive, Says}
-use Rattle.hm_text.proofs.Once.{late_refusal, not_refused, one_instruction, one_refusal, one_width, some_width}
-use Rattle.hm_text.proofs.Printing.{width_is}
+use Rattle.hm_text_tables.proofs.Once.{late_refusal, not_refused, one_instruction, one_refusal, one_width, some_width}
+use Rattle.hm_text_tables.proofs.Printing.{width_is}
 use Rattle.hm_asm.specs.FirstPass.{AreFine, with_name}
 use Rattle.hm_asm.specs.SecondPass.{AreAsked, AreBytes, AreGiven, AreValues, IsFirstMissing, IsListRefused, IsNextRefused, IsOperandColumn, IsSaidRefused}
 use Rattle.hm_asm.specs.SecondPass.{Naming, low_bytes}

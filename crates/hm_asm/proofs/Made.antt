@@ -5,7 +5,7 @@ use Rattle.std.proofs.lemmas.List.{append-nil, length-append, length-replicate}
 use Rattle.std.proofs.lemmas.List.Elements.{All-append, All-cons, All-nil, All-weaker}
 use Rattle.hm_base.specs.Image.{Before, IsImage, IsPlaced, Segment, segment, with_segment}
 use Rattle.hm_base.proofs.Images.{IsImage-with_segment, with_segment-behind}
-use Rattle.hm_text.proofs.Once.{some_or_none}
+use Rattle.hm_text_tables.proofs.Once.{some_or_none}
 use Rattle.hm_source.specs.Places.{HasRoom}
 use Rattle.hm_source.proofs.Rooms.{room_after_some}
 use Rattle.hm_asm.specs.Making.{IsMade}

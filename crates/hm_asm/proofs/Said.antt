@@ -8,8 +8,8 @@ use Rattle.hm_source.specs.Statements.{Said, nothing, instruction, directive, Sa
 use Rattle.hm_source.proofs.Asks.{no_list, one_size}
 use Rattle.hm_source.proofs.Fronts.{one_tokens}
 use Rattle.hm_source.proofs.One.{one_list, tail_is}
-use Rattle.hm_text.specs.Texts.{HasWidth}
-use Rattle.hm_text.proofs.Once.{one_width}
+use Rattle.hm_text_tables.specs.Texts.{HasWidth}
+use Rattle.hm_text_tables.proofs.Once.{one_width}
 
 -- DIRECTIVES
 name_same : (v w : List ℕ) (ts us : List Tok) → word v ∷ ts ≡ word w ∷ us → v ≡ w

@@ -31,8 +31,8 @@ use Rattle.hm_asm.proofs.Given.{bytes_length, given_rising}
 use Rattle.hm_asm.proofs.Joined.{AreRising, joined_both, joined_from, with_piece-apart}
 use Rattle.hm_asm.proofs.Outcomes.{line_not_both}
 use Rattle.hm_asm.proofs.Said.{one_said, says_width}
-use Rattle.hm_text.proofs.Once.{one_width}
-use Rattle.hm_text.specs.Texts.{HasWidth}
+use Rattle.hm_text_tables.proofs.Once.{one_width}
+use Rattle.hm_text_tables.specs.Texts.{HasWidth}
 
 -- no line is left
 pub no_lines : (rest : List ℕ) → length rest ≡ 0 → source_lines rest ≡ []

@@ -8,8 +8,8 @@ use Rattle.hm_line.specs.Columns.{IsOperand}
 use Rattle.hm_line.specs.Texts.{column}
 use Rattle.hm_line.specs.declared.errors.AsmKind.{AsmKind}
 use Rattle.hm_line.specs.declared.errors.AsmKind.TheVariants as kinds
-use Rattle.hm_text.specs.Refusals.{IsTextRefused}
-use Rattle.hm_text.specs.Texts.{IsTextOf}
+use Rattle.hm_text_tables.specs.Refusals.{IsTextRefused}
+use Rattle.hm_text_tables.specs.Texts.{IsTextOf}
 use Rattle.hm_tokens.specs.Tokens.{skip}
 use Rattle.hm_source.specs.declared.values.DatumSize.{DatumSize}
 use Rattle.hm_source.specs.Directives.{Datum, literal, named, beyond, Directed, org, align, space, values, bytes_each}

@@ -16,7 +16,7 @@ ghost use Rattle.hm_source.specs.Statements.{Said, Says, directive, instruction}
 ghost use Rattle.hm_base.specs.Image.{Segment};
 ghost use Rattle.hm_line.specs.Labels.{LabelMap};
 ghost use Rattle.hm_line.specs.Texts.{column};
-ghost use Rattle.hm_text.specs.Texts.{HasWidth};
+ghost use Rattle.hm_text_tables.specs.Texts.{HasWidth};
 ghost use Rattle.hm_tokens.specs.Tokens.{skip};
 
 use crate::errors::{AsmErr, refused};

@@ -4,7 +4,7 @@ use Rattle.std.specs.List.{join_with_byte}
 use Rattle.hm_codes.specs.Listing.{half_at, Stands}
 use Rattle.hm_isa.specs.Code.{halfwords, width_of}
 use Rattle.hm_isa.specs.declared.Instr.{Instr}
-use Rattle.hm_text.specs.Tables.{printed_text}
+use Rattle.hm_text_tables.specs.Tables.{printed_text}
 use Rattle.hm_text_base.specs.Marks.{line_end, space}
 use Rattle.hm_text_base.specs.Texts.{hex2, hex8}
 

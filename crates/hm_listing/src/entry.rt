@@ -3,13 +3,13 @@
 ghost use Rattle.std.specs.Prelude.{◌≡◌, ◌%◌, ◌++◌, ◌∷◌, [], codes, map, IfOk};
 ghost use Rattle.std.specs.List.{join_with_byte};
 ghost use Rattle.hm_listing.specs.Listings.{entry_line, half, halves_from, hex4, listing_line};
-ghost use Rattle.hm_text.specs.Tables.{printed_text};
+ghost use Rattle.hm_text_tables.specs.Tables.{printed_text};
 ghost use Rattle.hm_text_base.specs.Texts.{hex8};
 
 use hm_base::OutOfMemory;
 use hm_isa::Instr;
-use hm_text::print_instr;
 use hm_text_base::{hex2, hex8, text};
+use hm_text_tables::print_instr;
 
 /// Adds a halfword in four digits.
 fn add_hex4(out: &mut Vec<u8>, half: u16) -> Result<(), OutOfMemory>

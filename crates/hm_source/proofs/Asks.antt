@@ -12,7 +12,7 @@ use Rattle.hm_source.specs.declared.values.Values.{Values}
 use Rattle.hm_source.specs.Directives.{Datum, Directed, org, align, space, values, asked_tokens, IsDirective, IsInRange, list_name, list_tokens, multiple_of}
 use Rattle.hm_line.specs.Fronts.{AreFront}
 use Rattle.hm_source.specs.Shown.{AreListed, ShowsValues}
-use Rattle.hm_text.proofs.Decided.{word_is}
+use Rattle.hm_text_tables.proofs.Decided.{word_is}
 use Rattle.hm_source.proofs.Fronts.{front_and_rest, front_one}
 
 -- a directive's name, and what stands behind it

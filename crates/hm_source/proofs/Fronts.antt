@@ -5,7 +5,7 @@ use Rattle.hm_text_base.proofs.Steps.{some_is}
 use Rattle.hm_tokens.specs.Lines.{AreTokensOf}
 use Rattle.hm_tokens.specs.Tokens.{Tok, skip, token_at, comma, plus_mark}
 use Rattle.hm_line.specs.Fronts.{AreFront}
-use Rattle.hm_text.proofs.Decided.{mark_is}
+use Rattle.hm_text_tables.proofs.Decided.{mark_is}
 use Rattle.hm_source.specs.Shown.{EndsHere}
 
 -- a token and a rest

@@ -4,7 +4,7 @@ use Rattle.hm_tokens.specs.Tokens.{word, number, skip, token_at, minus_mark, plu
 use Rattle.hm_source.specs.Directives.{Datum, literal, named, beyond, datum_tokens}
 use Rattle.hm_line.specs.Fronts.{AreFront}
 use Rattle.hm_source.specs.Shown.{EndsHere}
-use Rattle.hm_text.proofs.Decided.{word_is}
+use Rattle.hm_text_tables.proofs.Decided.{word_is}
 use Rattle.hm_source.proofs.Fronts.{same_front, same_next}
 
 -- ---- that `-` begins

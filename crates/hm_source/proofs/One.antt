@@ -3,7 +3,7 @@ use Rattle.std.proofs.Common.{◌≡◌, true, false, List, [], ◌∷◌, ◌++
 use Rattle.std.proofs.lemmas.List.{append-nil}
 use Rattle.hm_tokens.specs.Tokens.{Tok, number, comma, plus_mark}
 use Rattle.hm_source.specs.Directives.{Datum, literal, named, beyond, datum_tokens, list_tokens}
-use Rattle.hm_text.proofs.Decided.{mark_is}
+use Rattle.hm_text_tables.proofs.Decided.{mark_is}
 
 -- no `+` goes on with what stands before
 abbrev EndsTokens : List Tok → Type 0

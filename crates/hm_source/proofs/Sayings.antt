@@ -1,7 +1,7 @@
 -- What a text says, by its first byte.
 use Rattle.std.proofs.Common.{◌≡◌, ◌<◌, ℕ, List, [], ◌∷◌, length, get_or, Option, Some, None, refl, sym, subst, arith}
 use Rattle.std.specs.Prelude.{IfNone, IfSome, IsSomeAnd}
-use Rattle.hm_text.specs.Texts.{HasWidth}
+use Rattle.hm_text_tables.specs.Texts.{HasWidth}
 use Rattle.hm_source.specs.declared.statements.Statement.{Statement}
 use Rattle.hm_source.specs.declared.statements.Statement.TheVariants as statements
 use Rattle.hm_source.specs.Shown.{ShowsSaid}

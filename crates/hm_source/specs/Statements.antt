@@ -1,7 +1,7 @@
 -- What the text of a line says, behind its label and before its comment.
 use Rattle.std.specs.Prelude.{◌≡◌, ◌≢◌, ℕ, List, [], ◌∷◌}
 use Rattle.hm_tokens.specs.Tokens.{point}
-use Rattle.hm_text.specs.Texts.{HasWidth}
+use Rattle.hm_text_tables.specs.Texts.{HasWidth}
 use Rattle.hm_source.specs.Directives.{Directed, IsDirective}
 
 -- nothing, an instruction whose code has so many bytes, or a directive

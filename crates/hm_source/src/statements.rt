@@ -3,7 +3,7 @@
 ghost use Rattle.std.specs.Prelude.{◌≡◌, ◌<◌, ◌^◌, ℕ, length, IfSome, IfNone, IsSomeAnd};
 ghost use Rattle.hm_source.specs.Shown.{ShowsSaid};
 ghost use Rattle.hm_source.specs.Statements.{Said, Says};
-ghost use Rattle.hm_text.specs.Texts.{HasWidth};
+ghost use Rattle.hm_text_tables.specs.Texts.{HasWidth};
 
 use crate::directives::{Directive, read_directive};
 use hm_text::shape;

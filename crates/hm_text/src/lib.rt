@@ -1,51 +1,21 @@
 //! Instructions as text: printed, their width told of a text alone, and read where the labels are known.
 #![tactic(auto)]
 
-ghost use Rattle.std.specs.Prelude.{◌≡◌, ◌↔◌, ℕ, ◌%◌, List, Option, Ok, Err, MatchResult, IfOk, option_map};
+ghost use Rattle.std.specs.Prelude.{◌≡◌, ◌↔◌, ℕ, ◌%◌, Ok, Err, MatchResult, IfOk, option_map};
 ghost use Rattle.std.specs.FinMap as map;
 ghost use Rattle.hm_isa.specs.declared.Instr.{Instr};
 ghost use Rattle.hm_line.specs.declared.errors.TextErr.{TextErr};
 ghost use Rattle.hm_line.specs.Texts.{IsOfForm};
-ghost use Rattle.hm_text.specs.Refusals.{IsAtFirstWord, IsShapeRefused, IsTextRefused};
-ghost use Rattle.hm_isa.specs.Code.{width_of};
-ghost use Rattle.hm_text.specs.Tables.{printed_text};
-ghost use Rattle.hm_text.specs.Texts.{HasWidth, IsOnlyShape, IsShape, IsTextOf};
+ghost use Rattle.hm_text_tables.specs.Refusals.{IsAtFirstWord, IsShapeRefused, IsTextRefused};
+ghost use Rattle.hm_text_tables.specs.Texts.{HasWidth, IsOnlyShape, IsShape, IsTextOf};
 ghost use Rattle.hm_tokens.specs.Tokens.{tok};
 
-mod labels;
-mod laws;
-mod named;
-mod reading;
-mod tables;
-mod texts;
-
-use arrayvec::ArrayString;
-use hm_isa::{ByWidth, Instr, by_width};
+use hm_isa::Instr;
 pub use hm_line::{AsmKind, Labels, TextErr};
 use hm_line::{Form, check_form, column, last_column};
-use hm_textv::print_v;
+use hm_text_tables::{Shape, address_in, row_at, row_shape};
+pub use hm_text_tables::{print_instr, text_law};
 use hm_tokens::skip;
-pub use laws::text_law;
-use named::address_in;
-use reading::Shape;
-use tables::{row_at, row_shape};
-use texts::{print_narrow, print_wide};
-
-/// The text of an instruction that stands at `pc`: the first word, a space, and the operands with commas between them, numbers in
-/// decimal, and for a label the address that it names as `0x` and eight digits. `parse_instr` gives the instruction again, at the
-/// same `pc` and with any labels, and `shape` its width.
-pub fn print_instr(i: &Instr, pc: u32) -> ArrayString<96>
-    requires even { pc % 2 ≡ 0 }
-    ensures text { result.bytes ≡ printed_text i.now pc }
-    ensures read { (labels : List ℕ → Option ℕ) → IsTextOf result.bytes pc labels i.now }
-    ensures width { HasWidth result.bytes (width_of i.now) }
-{
-    match by_width(i) {
-        ByWidth::Narrow(row) => print_narrow(&row, pc),
-        ByWidth::Wide(row) => print_wide(&row, pc),
-        ByWidth::Vector(row) => print_v(&row),
-    }
-}
 
 /// The refusal of a text that no row has.
 fn no_row(text: &[u8]) -> TextErr

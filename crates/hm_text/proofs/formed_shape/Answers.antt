@@ -1,7 +1,7 @@
 use Rattle.std.proofs.Common.{subst, sym}
 use Rattle.hm_line.specs.declared.errors.AsmKind.{AsmKind}
-use Rattle.hm_text.specs.Refusals.{IsShapeRefused}
-use Rattle.hm_text.proofs.InTables.{seen_of, seen_parts}
+use Rattle.hm_text_tables.specs.Refusals.{IsShapeRefused}
+use Rattle.hm_text_tables.proofs.InTables.{seen_of, seen_parts}
 use Rattle.hm_text.proofs.formed_shape.Goals as goal
 
 pub returns-in-Some-clause-told : goal.returns-in-Some-clause-told

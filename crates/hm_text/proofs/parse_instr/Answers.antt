@@ -2,8 +2,8 @@ use Rattle.std.proofs.Common.{refl}
 use Rattle.std.specs.FinMap.{get}
 use Rattle.std.specs.Prelude.{option_map}
 use Rattle.hm_tokens.specs.Tokens.{tok}
-use Rattle.hm_text.proofs.Told.{is_missing, is_out_of_reach, missing_reads, missing_tells, nothing_at, one_at_label, out_reads, out_tells, row_is_named}
-use Rattle.hm_text.proofs.Told.{row_reads, row_tells, shape_label, shape_reads, shape_tells}
+use Rattle.hm_text_tables.proofs.Told.{is_missing, is_out_of_reach, missing_reads, missing_tells, nothing_at, one_at_label, out_reads, out_tells, row_is_named}
+use Rattle.hm_text_tables.proofs.Told.{row_reads, row_tells, shape_label, shape_reads, shape_tells}
 use Rattle.hm_text.proofs.parse_instr.Goals as goal
 
 pub returns-in-Some-row_at-clause-read : goal.returns-in-Some-row_at-clause-read

@@ -1,6 +1,6 @@
 use Rattle.std.specs.Prelude.{option_map}
 use Rattle.hm_tokens.specs.Tokens.{tok}
-use Rattle.hm_text.proofs.Told.{no_shape_refusal, no_widths, shape_refusals, widths_of}
+use Rattle.hm_text_tables.proofs.Told.{no_shape_refusal, no_widths, shape_refusals, widths_of}
 use Rattle.hm_text.proofs.shape.Goals as goal
 
 pub returns-in-Ok-clause-width : goal.returns-in-Ok-clause-width

@@ -4,9 +4,9 @@ use Rattle.hm_code_bytes.proofs.Bytes.{length_halves}
 use Rattle.hm_isa.specs.Code.{halfwords}
 use Rattle.hm_source.specs.Places.{HasRoom}
 use Rattle.hm_source.specs.Statements.{instruction}
-use Rattle.hm_text.specs.Refusals.{IsTextRefused}
-use Rattle.hm_text.specs.Texts.{IsTextOf}
-use Rattle.hm_text.proofs.Printing.{width_is}
+use Rattle.hm_text_tables.specs.Refusals.{IsTextRefused}
+use Rattle.hm_text_tables.specs.Texts.{IsTextOf}
+use Rattle.hm_text_tables.proofs.Printing.{width_is}
 use Rattle.hm_asm.specs.Making.{place_of, with_bytes}
 use Rattle.hm_code_bytes.specs.Bytes.{code_bytes}
 use Rattle.hm_asm.proofs.Steps.{said_err}

@@ -1,6 +1,6 @@
 use Rattle.std.proofs.Common.{◌≡◌, ℕ, ap, List, ◌++◌, ◌∙◌, subst}
 use Rattle.std.specs.Prelude.{IfOk}
-use Rattle.hm_text.specs.Tables.{printed_text}
+use Rattle.hm_text_tables.specs.Tables.{printed_text}
 use Rattle.hm_listing.specs.Listings.{halves_from, listing_line}
 use Rattle.hm_listing.proofs.lines.add_shown.Goals as goal
 
