@@ -6,8 +6,8 @@ use Rattle.std.proofs.lemmas.List.{append-nil}
 use Rattle.std.proofs.lemmas.Bool.Decides.{nat_tests}
 use Rattle.hm_regs.specs.Stacks.{main_of, process_of}
 use Rattle.hm_regs.specs.declared.Regs.{Regs}
-use Rattle.hm_report.proofs.Ascii.{outcome_keeps}
-use Rattle.hm_report.proofs.Bytes.{AreAll, adds, appended, bit_plain, decimal_plain, hex2_plain, hex8_plain, is_plain, is_shown}
+use Rattle.hm_report_lines.proofs.Ascii.{outcome_keeps}
+use Rattle.hm_report_lines.proofs.Bytes.{AreAll, adds, appended, bit_plain, decimal_plain, hex2_plain, hex8_plain, is_plain, is_shown}
 use Rattle.hm_run.specs.Report.{bit_line, flags_line, low_lines, mode_line, outcome_line, outcome_text, output_lines, pointer_lines, position_line}
 use Rattle.hm_run.specs.Report.{register_lines, report_of, state_lines, system_line, vector_line, vector_lines, word_line}
 use Rattle.hm_run.specs.Timed.{Timed}

@@ -11,7 +11,7 @@ use Rattle.hm_base.specs.declared.Place.{Place}
 use Rattle.hm_base.specs.declared.Place.TheVariants as place
 use Rattle.hm_exc.specs.declared.types.Slot.{Slot}
 use Rattle.hm_exc.specs.declared.types.Slot.TheVariants as slot
-use Rattle.hm_report.proofs.Bytes.{AreAll, adds, appended, are_all, is_ascii, told}
+use Rattle.hm_report_lines.proofs.Bytes.{AreAll, adds, appended, are_all, is_ascii, told}
 use Rattle.hm_run.specs.Report.{kind_text as fault_text, place_text, reason_text, register_text, slot_text, who_text}
 use Rattle.hm_run.specs.declared.Reason.{Reason}
 use Rattle.hm_run.specs.declared.Reason.TheVariants as reason

@@ -5,7 +5,7 @@ ghost use Rattle.hm_shake.specs.Kinds.{kind_text};
 ghost use Rattle.hm_shake.specs.Texts.{count_line, counts_text, plain_line};
 
 use hm_base::{FaultKind, OutOfMemory};
-use hm_report::{halted_text, kind_text, slot_text, who_text};
+use hm_report_lines::{halted_text, kind_text, slot_text, who_text};
 use hm_run::Who;
 use hm_shake_runs::{Found, Kind};
 use hm_text_base::{decimal, separator, text};

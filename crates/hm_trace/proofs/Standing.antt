@@ -5,7 +5,7 @@ use Rattle.hm_base.specs.declared.Fault.{Fault}
 use Rattle.hm_codes.proofs.Unique.{unique}
 use Rattle.hm_codes.specs.Listing.{IsFetched, IsListing, Listing, Stands}
 use Rattle.hm_isa.specs.declared.Instr.{Instr}
-use Rattle.hm_text.specs.Tables.{printed_text}
+use Rattle.hm_text_tables.specs.Tables.{printed_text}
 use Rattle.hm_trace.specs.Lines.{text_of}
 
 fetched_text : (flash : ℕ → ℕ) (a : ℕ) (x : Result Instr Fault) (i : Instr) → IsFetched flash a x → Stands flash a i → printed_text i a ≡ text_of a x

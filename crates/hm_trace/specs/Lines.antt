@@ -11,7 +11,7 @@ use Rattle.hm_run.specs.Timed.{Timed}
 use Rattle.hm_run.specs.declared.Outcome.{Outcome}
 use Rattle.hm_sched.specs.Printed.{tick_text}
 use Rattle.hm_state.specs.State.{regs_of}
-use Rattle.hm_text.specs.Tables.{printed_text}
+use Rattle.hm_text_tables.specs.Tables.{printed_text}
 use Rattle.hm_text_base.specs.Texts.{separator, hex8}
 use Rattle.hm_trace.specs.Changes.{changes}
 use Rattle.hm_trace.specs.Progresses.{progresses}

@@ -6,7 +6,7 @@ ghost use Rattle.hm_trace.specs.Changes.{same_flags, status_changes, vector_chan
 
 use hm_base::OutOfMemory;
 use hm_regs::Regs;
-use hm_report::word_text;
+use hm_report_lines::word_text;
 use hm_text_base::{binary_digit, decimal, hex2, hex8, separator, text};
 use std::alloc::Global;
 

@@ -7,8 +7,8 @@ ghost use Rattle.hm_trace.specs.Lines.{instr_text, text_of};
 
 use hm_base::OutOfMemory;
 use hm_machine::Machine;
-use hm_text::print_instr;
 use hm_text_base::{hex8, separator, text};
+use hm_text_tables::print_instr;
 
 /// Adds the text of the instruction that stands at an address, or that none does.
 fn add_text(out: &mut Vec<u8>, machine: &Machine, addr: u32) -> Result<(), OutOfMemory>

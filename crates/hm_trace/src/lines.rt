@@ -19,7 +19,7 @@ use crate::stands::{Before, pc_of};
 use hm_base::OutOfMemory;
 use hm_machine::{Machine, Outcome};
 use hm_regs::Regs;
-use hm_report::outcome_line;
+use hm_report_lines::outcome_line;
 use hm_sched::print_tick;
 use hm_text_base::{decimal, hex8, separator, text};
 use std::alloc::Global;

@@ -2,7 +2,7 @@ use Rattle.std.proofs.Common.{◌≡◌, true, false, ap, subst, sym, ◌∙◌,
 use Rattle.std.proofs.lemmas.Str.{IsUtf8-from_ascii}
 use Rattle.std.specs.Str.{IsAscii}
 use Rattle.hm_machine.specs.Shown.{timed_of}
-use Rattle.hm_report.proofs.Ascii.{report_text_is}
+use Rattle.hm_report_lines.proofs.Ascii.{report_text_is}
 use Rattle.hm_journal.proofs.Reports.{reported}
 use Rattle.hm_journal.proofs.running.report_at.Goals as goal
 

@@ -1,6 +1,6 @@
 use Rattle.std.proofs.Common.{ℕ, List, ap, ◌∙◌, add-one}
 use Rattle.hm_run.specs.Report.{vector_line}
-use Rattle.hm_report.proofs.registers_text.vector_lines.Goals as goal
+use Rattle.hm_report_lines.proofs.registers_text.vector_lines.Goals as goal
 
 pub loop-k-preserved : goal.loop-k-preserved
 loop-k-preserved c = rw add-one (c.in_ok-vector_line.ensures ∙ ap (λ (o : List ℕ). vector_line c.loop-k.k c.args.words.now o) c.loop-k.invariant)

@@ -20,12 +20,12 @@ pub fn number_text(alloc: Global, out: &mut Vec<u8>, name: &[u8], n: u64) -> Res
     decimal(alloc, out, n)
 }
 
-/// Adds words and an address.
-fn at_text(out: &mut Vec<u8>, name: &[u8], addr: u32) -> Result<(), OutOfMemory>
-    ensures { IfOk result (λ _. out.new.items ≡ out.old.items ++ name.now ++ hex8 addr) }
+/// Adds words and a number of eight hexadecimal digits: an address, or what a register has.
+fn at_text(out: &mut Vec<u8>, name: &[u8], word: u32) -> Result<(), OutOfMemory>
+    ensures { IfOk result (λ _. out.new.items ≡ out.old.items ++ name.now ++ hex8 word) }
 {
     text(out, name)?;
-    hex8(out, addr)
+    hex8(out, word)
 }
 
 /// The word for a kind of fault.

@@ -29,8 +29,8 @@ use Rattle.hm_run.specs.Report.{report_text}
 use Rattle.hm_run.specs.Timed.{Timed}
 use Rattle.hm_state.specs.State.{regs_of}
 use Rattle.hm_text_base.specs.Texts.{separator, binary_digit, hex2, hex8}
-use Rattle.hm_report.proofs.Bytes.{AreAll, adds, appended, bit_is, bytes_are, decimal_is, decimal_plain, hex2_is, hex8_is, hex8_plain, is_ascii, is_low}
-use Rattle.hm_report.proofs.Bytes.{is_plain, is_shown, joined, plain_is, told}
+use Rattle.hm_report_lines.proofs.Bytes.{AreAll, adds, appended, bit_is, bytes_are, decimal_is, decimal_plain, hex2_is, hex8_is, hex8_plain, is_ascii, is_low}
+use Rattle.hm_report_lines.proofs.Bytes.{is_plain, is_shown, joined, plain_is, told}
 
 -- THE FIRST LINE
 kind_is : (k : FaultKind) → is_plain (kind_text k) ≡ true

@@ -1,5 +1,0 @@
-use Rattle.hm_report.proofs.Ascii.{report_text_is}
-use Rattle.hm_report.proofs.laws.report_law.Goals as goal
-
-pub returns : goal.returns
-returns c = record { ascii = report_text_is }
