@@ -10,8 +10,8 @@ use Rattle.hm_code_bytes.specs.Bytes.{all_halves, half_bytes, word_bytes}
 use Rattle.hm_code_bytes.proofs.Bytes.{all_append, halves_append}
 use Rattle.hm_code_bytes.proofs.Made.{items_append}
 use Rattle.hm_kernel_code.specs.Images.{HasItems}
-use Rattle.hm_kernel_code.specs.Instructions.{AreItems, IsItem}
-use Rattle.hm_kernel_code.specs.Ranges.{ItemFits, ItemsFit}
+use Rattle.hm_kernel_instrs.specs.Instructions.{AreItems, IsItem}
+use Rattle.hm_kernel_instrs.specs.Ranges.{ItemFits, ItemsFit}
 
 -- an item of those that are in their ranges
 pub fit_at : (xs : List Item) (k : ℕ) (x : Item) → k < length xs → x ≡ slice_index_or xs k x → ItemsFit xs → ItemFits x

@@ -1,39 +1,25 @@
 -- A list of instructions whose halfwords stand in flash: each stands there.
-use Rattle.std.proofs.Common.{◌≡◌, ℕ, ◌+◌, ◌*◌, ◌%◌, ◌<◌, ◌≤◌, List, [], ◌∷◌, ◌++◌, length, map, refl, ap, subst, arith, length-append}
+use Rattle.std.proofs.Common.{◌≡◌, ℕ, ◌+◌, ◌*◌, ◌%◌, ◌<◌, ◌≤◌, List, [], ◌∷◌, ◌++◌, length, map, refl, subst, arith, length-append}
 use Rattle.hm_codes.specs.Listing.{HalvesStand}
 use Rattle.hm_codes.proofs.Standing.{halves_behind, halves_front, halves_within}
 use Rattle.hm_isa.specs.declared.Instr.{Instr}
 use Rattle.hm_isa.specs.Code.{halfwords}
 use Rattle.hm_kernel_lang.specs.declared.text.ElementType.{ElementType}
-use Rattle.hm_kernel_lang.specs.declared.text.Op.{Op}
-use Rattle.hm_kernel_lang.specs.declared.text.Op.TheVariants as op
 use Rattle.hm_kernel_lang.specs.declared.text.Line.{Line}
 use Rattle.hm_kernel_lang.specs.declared.machine.Item.{Item}
 use Rattle.hm_kernel_lang.specs.declared.machine.Item.TheVariants.{Plain, Begin, Again}
 use Rattle.hm_kernel_lang.specs.declared.machine.Kind.{Kind}
-use Rattle.hm_kernel_lang.specs.declared.machine.Kind.TheVariants.{Do}
 use Rattle.hm_kernel_lang.specs.Machine.{halves, item_halves}
 use Rattle.hm_kernel_lang.specs.Code.{body_code, halves_of, head_code, line_code, lines_code}
 use Rattle.hm_kernel_lang.specs.Correct.{CodeStands}
 use Rattle.hm_kernel_lang.proofs.Lines.{items_append}
 use Rattle.hm_kernel_lang.proofs.Straight.{items_halves, plain_halves}
 use Rattle.hm_code_bytes.specs.Bytes.{all_halves}
-use Rattle.hm_kernel_code.specs.Instructions.{AreItems, IsItem, IsKind, IsOperation, StaysIn}
+use Rattle.hm_kernel_instrs.specs.Instructions.{AreItems, StaysIn}
+use Rattle.hm_kernel_instrs.proofs.Widths.{item_width}
 use Rattle.hm_kernel_code.specs.Images.{StandsIn}
 
--- HOW LONG EACH KIND IS
-operation_width : (t : ElementType) (o : Op) (q : ℕ) (i : Instr) → IsOperation t o q i → length (halfwords i) ≡ 2
-operation_width t op.Add q i k = ap (λ (x : Instr). length (halfwords x)) k.is
-operation_width t o q i k = ap (λ (x : Instr). length (halfwords x)) k.is
-
-kind_width : (t : ElementType) (k : Kind) (i : Instr) → IsKind t k i → length (halfwords i) ≡ halves k
-kind_width t (Do o q) i k = operation_width t o q i k
-kind_width t kind i k = ap (λ (x : Instr). length (halfwords x)) k.is
-
-item_width : (t : ElementType) (x : Item) (i : Instr) → IsItem t x i → length (halfwords i) ≡ item_halves x
-item_width t (Plain k) i h = kind_width t k i h
-item_width t item i h = ap (λ (x : Instr). length (halfwords x)) h.is
-
+-- AN ITEM HAS SOME HALFWORD
 some_kind : (k : Kind) → 0 < halves k
 some_kind k = grind arith
 

@@ -1,6 +1,5 @@
 pub mod Segments
 pub mod Held
-pub mod Made
 pub mod Appending
 pub mod Flash
 pub mod Summing

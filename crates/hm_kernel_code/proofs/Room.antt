@@ -17,7 +17,7 @@ use Rattle.hm_kernel_lang.specs.Texts.{IsSet, IsText}
 use Rattle.hm_kernel_lang.proofs.Lines.{items_append}
 use Rattle.hm_kernel_lang.proofs.Straight.{halves_append, items_halves, plain_halves}
 use Rattle.hm_kernel_code.specs.Images.{flash_bytes}
-use Rattle.hm_kernel_code.specs.Instructions.{AreItems}
+use Rattle.hm_kernel_instrs.specs.Instructions.{AreItems}
 use Rattle.hm_kernel_code.proofs.Appending.{expr_halves}
 use Rattle.hm_kernel_code.proofs.Held.{total}
 

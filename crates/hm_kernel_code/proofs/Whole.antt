@@ -15,7 +15,7 @@ use Rattle.hm_kernel_lang.specs.Code.{code}
 use Rattle.hm_kernel_lang.specs.Language.{address}
 use Rattle.hm_kernel_lang.specs.Texts.{IsArray, IsText}
 use Rattle.hm_kernel_code.specs.Images.{IsImageOf, IsMade, flash_bytes}
-use Rattle.hm_kernel_code.specs.Instructions.{AreItems}
+use Rattle.hm_kernel_instrs.specs.Instructions.{AreItems}
 use Rattle.hm_kernel_code.specs.Segments.{AllApart, array_segment, with_array, with_arrays}
 use Rattle.hm_kernel_code.proofs.Apart.{all_apart, all_placed, all_with_image, flat_is_image}
 use Rattle.hm_kernel_code.proofs.Held.{items_stand, lines_stay, total}

@@ -12,7 +12,7 @@ use Rattle.hm_kernel_lang.specs.declared.machine.Item.{Item}
 use Rattle.hm_kernel_lang.specs.Machine.{item_halves}
 use Rattle.hm_kernel_lang.specs.Code.{code}
 use Rattle.hm_kernel_lang.specs.Correct.{CodeStands}
-use Rattle.hm_kernel_code.specs.Instructions.{AreItems, IsItem, StaysIn}
+use Rattle.hm_kernel_instrs.specs.Instructions.{AreItems, IsItem, StaysIn}
 use Rattle.hm_kernel_code.specs.Segments.{with_arrays}
 
 -- an item of the code stands in flash

@@ -1,4 +1,2 @@
-pub mod Instructions
 pub mod Segments
 pub mod Images
-pub mod Ranges

@@ -4,16 +4,16 @@ ghost use Rattle.std.specs.Prelude.{◌≡◌, ◌<◌, ◌≤◌, List, length,
 ghost use Rattle.hm_base.specs.Image.{Segment, IsApart, IsImage, IsPlaced, flash_byte, flash_size, flat, word_at};
 ghost use Rattle.hm_base.specs.declared.errors.ImageErr.TheVariants as image_err;
 ghost use Rattle.hm_kernel_code.specs.Images.{HasItems, IsImageOf, IsMade};
-ghost use Rattle.hm_kernel_code.specs.Ranges.{ItemsFit};
 ghost use Rattle.hm_kernel_code.specs.Segments.{AllApart, AllPlaced, array_segment, with_array, with_arrays};
+ghost use Rattle.hm_kernel_instrs.specs.Ranges.{ItemsFit};
 ghost use Rattle.hm_kernel_lang.specs.declared.text.Text.{Text};
 ghost use Rattle.hm_kernel_lang.specs.Texts.{IsText};
 
 use crate::lines::code_of;
-use crate::rows::instr_of;
 use crate::values::value_bytes;
 use hm_base::{Image, ImageErr, OutOfMemory};
 use hm_code_bytes::{add_code, add_word};
+use hm_kernel_instrs::instr_of;
 use hm_kernel_lang::machine::Item;
 use hm_kernel_lang::text::{Array, ElementType, Text};
 use std::alloc::Global;

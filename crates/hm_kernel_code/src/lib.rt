@@ -1,11 +1,10 @@
-//! The instructions of an array text's code, its image, and its steps.
+//! The items of an array text, its image, and its steps.
 #![tactic(auto)]
 
 mod expressions;
 mod image;
 mod lines;
 mod parts;
-mod rows;
 mod steps;
 mod values;
 

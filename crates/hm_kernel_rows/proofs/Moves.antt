@@ -40,7 +40,7 @@ use Rattle.hm_kernel_lang.specs.declared.machine.Kind.TheVariants.{Load}
 use Rattle.hm_kernel_lang.specs.Machine.{IsWithin, View, exec, filled, size_code}
 use Rattle.hm_kernel_lang.specs.Correct.{Reaches}
 use Rattle.hm_kernel_rows.specs.Shows.{Shows, size_of_type}
-use Rattle.hm_kernel_code.specs.Instructions.{IsMoveRow}
+use Rattle.hm_kernel_instrs.specs.Instructions.{IsMoveRow}
 use Rattle.hm_kernel_rows.specs.Standing.{Stands}
 use Rattle.hm_kernel_rows.proofs.Merging.{not_equal, predicate_is, tails}
 use Rattle.hm_kernel_rows.proofs.Operations.{length_unlanes, some_modulus}

@@ -38,7 +38,7 @@ use Rattle.hm_kernel_lang.specs.Machine.{View, exec, merged, size_code}
 use Rattle.hm_kernel_lang.specs.Correct.{Reaches}
 use Rattle.hm_kernel_rows.specs.Shows.{Shows, element_at, size_of_type}
 use Rattle.hm_code_bytes.specs.Instructions.{IsAddRow}
-use Rattle.hm_kernel_code.specs.Instructions.{element_name}
+use Rattle.hm_kernel_instrs.specs.Instructions.{element_name}
 use Rattle.hm_kernel_rows.specs.Standing.{Stands}
 use Rattle.hm_kernel_rows.proofs.Merging.{AllBytes, length_lanes}
 use Rattle.hm_kernel_rows.proofs.Steps.{reached}

@@ -5,7 +5,7 @@ use Rattle.hm_isa.specs.declared.Instr.{Instr}
 use Rattle.hm_kernel_lang.specs.declared.text.ElementType.{ElementType}
 use Rattle.hm_kernel_lang.specs.declared.machine.Item.{Item}
 use Rattle.hm_kernel_lang.specs.Machine.{item_halves}
-use Rattle.hm_kernel_code.specs.Instructions.{IsItem, StaysIn}
+use Rattle.hm_kernel_instrs.specs.Instructions.{IsItem, StaysIn}
 
 -- an item stands at an address of a listing
 pub record Stands (t : ElementType) (listing : Listing) (a : ℕ) (x : Item) : Type 0 where

@@ -5,7 +5,7 @@ use Rattle.hm_kernel_lang.specs.declared.text.Array.{Array}
 use Rattle.hm_kernel_lang.specs.declared.text.Text.{Text}
 use Rattle.hm_kernel_lang.specs.Code.{code}
 use Rattle.hm_kernel_code.specs.Images.{HasItems}
-use Rattle.hm_kernel_code.specs.Ranges.{ItemsFit}
+use Rattle.hm_kernel_instrs.specs.Ranges.{ItemsFit}
 use Rattle.hm_kernel_code.specs.Segments.{AllApart, AllPlaced, with_arrays}
 use Rattle.hm_kernel_code.proofs.Apart.{all_placed}
 use Rattle.hm_kernel_code.proofs.Exists.{code_fits}

@@ -1,7 +1,7 @@
 use Rattle.std.proofs.Common.{subst}
 use Rattle.hm_code_bytes.specs.Instructions.{IsDuplicateRow}
 use Rattle.hm_isa.specs.declared.vectors.Element.{Element}
-use Rattle.hm_kernel_code.proofs.rows.splat.Goals as goal
+use Rattle.hm_kernel_instrs.proofs.rows.splat.Goals as goal
 
 pub returns : goal.returns
 returns c = record {

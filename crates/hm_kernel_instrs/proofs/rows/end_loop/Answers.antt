@@ -1,6 +1,6 @@
 use Rattle.std.proofs.Common.{refl}
-use Rattle.hm_kernel_code.proofs.Made.{again_made}
-use Rattle.hm_kernel_code.proofs.rows.end_loop.Goals as goal
+use Rattle.hm_kernel_instrs.proofs.Made.{again_made}
+use Rattle.hm_kernel_instrs.proofs.rows.end_loop.Goals as goal
 
 pub returns : goal.returns
 returns c = record { row = again_made _ c.args.halves refl c.new.ensures }

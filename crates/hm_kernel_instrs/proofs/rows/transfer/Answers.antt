@@ -1,6 +1,6 @@
 use Rattle.std.proofs.Common.{◌∙◌}
-use Rattle.hm_kernel_code.proofs.Made.{move_made}
-use Rattle.hm_kernel_code.proofs.rows.transfer.Goals as goal
+use Rattle.hm_kernel_instrs.proofs.Made.{move_made}
+use Rattle.hm_kernel_instrs.proofs.rows.transfer.Goals as goal
 
 pub returns : goal.returns
 returns c = record {

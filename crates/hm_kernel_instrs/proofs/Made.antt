@@ -12,7 +12,7 @@ use Rattle.hm_isa.specs.declared.memory.V24.{V24}
 use Rattle.hm_isa.specs.declared.narrow.S6.{S6}
 use Rattle.hm_kernel_lang.specs.declared.text.ElementType.{ElementType}
 use Rattle.hm_kernel_lang.specs.Machine.{size_code}
-use Rattle.hm_kernel_code.specs.Instructions.{IsAgainRow, IsBeginRow, IsMoveRow, IsSumRow}
+use Rattle.hm_kernel_instrs.specs.Instructions.{IsAgainRow, IsBeginRow, IsMoveRow, IsSumRow}
 
 pub sum_made : (row : S6) (d m : ℕ) → row.d.value ≡ d → row.m.value ≡ m → IsSumRow d m (instr.Scalar (scalar.S6 row))
 sum_made row d m e f = record { row = row; is = refl; d_is = e; m_is = f }

@@ -1,6 +1,6 @@
 use Rattle.std.proofs.Common.{ℕ, ◌+◌, subst}
 use Rattle.hm_code_bytes.specs.Instructions.{IsAddRow}
-use Rattle.hm_kernel_code.proofs.rows.add_row.Goals as goal
+use Rattle.hm_kernel_instrs.proofs.rows.add_row.Goals as goal
 
 pub returns : goal.returns
 returns c = record {

@@ -4,8 +4,8 @@ ghost use Rattle.std.specs.Prelude.{◌≡◌, ◌+◌, ◌<◌, cond};
 ghost use Rattle.hm_code_bytes.specs.Instructions.{IsAddRow, IsDuplicateRow, IsSignedRow};
 ghost use Rattle.hm_isa.specs.declared.vectors.AddName.{AddName};
 ghost use Rattle.hm_isa.specs.declared.vectors.SignedName.{SignedName};
-ghost use Rattle.hm_kernel_code.specs.Instructions.{IsAgainRow, IsBeginRow, IsItem, IsKind, IsMoveRow, IsOperation, IsSumRow, element_name};
-ghost use Rattle.hm_kernel_code.specs.Ranges.{ItemFits, KindFits};
+ghost use Rattle.hm_kernel_instrs.specs.Instructions.{IsAgainRow, IsBeginRow, IsItem, IsKind, IsMoveRow, IsOperation, IsSumRow, element_name};
+ghost use Rattle.hm_kernel_instrs.specs.Ranges.{ItemFits, KindFits};
 ghost use Rattle.hm_kernel_lang.specs.Language.{is_signed};
 ghost use Rattle.hm_kernel_lang.specs.Machine.{size_code};
 
@@ -177,7 +177,7 @@ fn plain(t: ElementType, kind: Kind) -> Instr
     }
 }
 
-/// The instruction of an item.
+/// The instruction of an item whose numbers are in their ranges.
 pub fn instr_of(t: ElementType, item: Item) -> Instr
     requires fits { ItemFits item }
     ensures row { IsItem t item result }

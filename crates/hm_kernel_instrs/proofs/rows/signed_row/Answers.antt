@@ -1,7 +1,7 @@
 use Rattle.std.proofs.Common.{ℕ, ◌+◌, subst}
 use Rattle.hm_code_bytes.specs.Instructions.{IsSignedRow}
 use Rattle.hm_kernel_lang.specs.Machine.{size_code}
-use Rattle.hm_kernel_code.proofs.rows.signed_row.Goals as goal
+use Rattle.hm_kernel_instrs.proofs.rows.signed_row.Goals as goal
 
 pub returns : goal.returns
 returns c =

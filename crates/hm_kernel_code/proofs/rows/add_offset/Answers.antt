@@ -1,5 +1,0 @@
-use Rattle.hm_kernel_code.proofs.Made.{sum_made}
-use Rattle.hm_kernel_code.proofs.rows.add_offset.Goals as goal
-
-pub returns : goal.returns
-returns c = record { row = sum_made _ 5 4 c.new.ensures c.new-2.ensures }
