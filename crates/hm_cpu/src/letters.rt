@@ -1,4 +1,4 @@
-//! What does the letters of a schedule, with places for what is decoded.
+//! What does the letters of a schedule, with a table of what was decoded of late or without one.
 
 ghost use Rattle.std.specs.Prelude.{◌≡◌, ◌+◌, ◌^◌, ◌<◌, ◌≤◌, OnOk};
 ghost use Rattle.std.specs.Vec.{vec_capacity};
@@ -17,7 +17,7 @@ use hm_recent::Cached;
 /// A table has so many places.
 const PLACES: usize = 1024;
 
-/// What does the letters of a schedule, and keeps instructions that it decoded of late, on which nothing depends. Who hands it on knows no type of an
+/// What does the letters of a schedule, and may keep instructions that it decoded of late, on which nothing depends. Who hands it on knows no type of an
 /// instruction.
 pub trait Letters {
     /// What a letter of a schedule does, of the thread or of the newest handler: `O` is a step of the older instruction, its next beat or the whole
@@ -39,23 +39,14 @@ pub trait Letters {
         ensures count { (x.new.retired ≤ x.old.retired + 4) × (x.new.older_steps ≤ x.old.older_steps + 4) };
 }
 
-/// One place, for the instruction that was decoded last.
+/// Keeps nothing from one letter to the next: each decodes its instructions anew.
 #[derive(Drop)]
-pub struct LastDecoded {
-    place: [Cached; 1],
-}
+pub struct Uncached;
 
 /// A table of 1,024 places (98 KB). Each address has one of them, which it shares with others.
 #[derive(Drop)]
 pub struct DecodedTable {
     places: [Cached; PLACES],
-}
-
-impl LastDecoded {
-    /// One where nothing was decoded yet.
-    pub const EMPTY: LastDecoded = LastDecoded {
-        place: [Cached::EMPTY],
-    };
 }
 
 impl DecodedTable {
@@ -65,10 +56,9 @@ impl DecodedTable {
     };
 }
 
-impl Letters for LastDecoded {
-    #[inline(always)]
+impl Letters for Uncached {
     fn letter(&mut self, l: u8, x: &mut Cpu) -> Result<(), LetterEnd> {
-        letter(l, &mut self.place, x)
+        letter(l, &mut [Cached::EMPTY], x)
     }
 }
 

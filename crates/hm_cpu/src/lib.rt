@@ -10,7 +10,7 @@ mod trial;
 mod younger;
 
 pub use cpu::Cpu;
-pub use letters::{DecodedTable, LastDecoded, Letters};
+pub use letters::{DecodedTable, Letters, Uncached};
 pub use service::OUTPUT;
 pub use step_ends::{LetterEnd, StepEnd};
 pub use trial::ready;

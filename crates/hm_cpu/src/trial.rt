@@ -19,7 +19,7 @@ use hm_base::Span;
 use hm_beat::BeatWise;
 use hm_exec::Any;
 use hm_mem::Mem;
-use hm_recent::{Cached, vector_at};
+use hm_recent::vector_anew;
 use hm_regs::Regs;
 use hm_undo::{Held, undone_law};
 use hm_window::Window;
@@ -32,7 +32,7 @@ fn follows(v: &Any, regs: &Regs, mem: &Mem) -> bool
         IsListing (flash_at m) listing → vector_of (listing regs.now.pc) ≡ Some (row_of v.now)
         → result ≡ goes_on (younger (core listing m.around) (standing 3 0 n steps (state_of regs.now m output))) }
 {
-    let Some(w) = vector_at(&mut [Cached::EMPTY], mem, regs.pc + 4) else {
+    let Some(w) = vector_anew(mem, regs.pc + 4) else {
         return false;
     };
     let at = Window { a: 3, b: 0 };
@@ -95,7 +95,7 @@ pub fn ready(regs: &Regs, at: Window, mem: &mut Mem) -> bool
     if at.b != 0 {
         return false;
     }
-    let Some(v) = vector_at(&mut [Cached::EMPTY], mem, regs.pc) else {
+    let Some(v) = vector_anew(mem, regs.pc) else {
         return false;
     };
     let touch = v.touch(2, regs);

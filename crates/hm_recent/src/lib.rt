@@ -7,4 +7,4 @@ mod table;
 
 pub use decoded::{Decoded, Whole};
 pub use recent::Cached;
-pub use table::{keep, kept, vector_at};
+pub use table::{keep, kept, vector_anew, vector_at};

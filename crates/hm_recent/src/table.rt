@@ -11,6 +11,7 @@ ghost use Rattle.hm_run.specs.Program.{vector_of};
 use crate::decoded::Decoded;
 use crate::recent::{Cached, halves_at};
 use hm_base::Fault;
+use hm_decode::fetch;
 use hm_exec::Any;
 use hm_mem::Mem;
 
@@ -61,6 +62,17 @@ pub fn vector_at(recent: &mut [Cached], mem: &Mem, addr: u32) -> Option<Any>
 {
     match keep(recent, mem, addr) {
         Ok(()) => kept(recent, addr).as_vector(),
+        Err(_) => None,
+    }
+}
+
+/// The vector instruction that stands at an address, where one does, decoded anew.
+pub fn vector_anew(mem: &Mem, addr: u32) -> Option<Any>
+    ensures row { (listing : Listing) → IsListing (flash_at (memory_of mem.now)) listing → option_map row_of result ≡ vector_of (listing addr) }
+    ensures room { IsSome result → addr + 4 < 2 ^ 32 }
+{
+    match fetch(mem, addr) {
+        Ok(i) => Decoded::of(i).as_vector(),
         Err(_) => None,
     }
 }

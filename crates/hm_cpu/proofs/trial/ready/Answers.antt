@@ -17,7 +17,7 @@ returns-in_default-clause-value c listing output n steps is =
     let m = memory_of c.args.mem.now in
     let two : 2 ≡ c.args.at.a = omega (arith, c.if-at-ne2.false) in
     let none : 0 ≡ c.args.at.b = omega (arith, c.if-at-ne0.false) in
-    ready_alone listing r m output n steps (ap (option_map row_of) (sym c.in_default.is) ∙ c.vector_at.ensures.row listing is)
+    ready_alone listing r m output n steps (ap (option_map row_of) (sym c.in_default.is) ∙ c.vector_anew.ensures.row listing is)
     ∙ (λ j. is_ready (core listing m.around) (standing (two j) (none j) n steps (state_of r m output)))
 
 pub returns-clause-same : goal.returns-clause-same
