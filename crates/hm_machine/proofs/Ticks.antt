@@ -1,6 +1,6 @@
 -- One tick of the machine.
 use Rattle.std.proofs.Common.{◌≡◌, ℕ, suc, zero, ◌+◌, ◌-◌, ◌≤◌, ◌<◌, arith, ap, refl, sym, ◌∙◌, subst, Bool, cond, true, false, List, [], ◌∷◌, drop, drop-drop}
-use Rattle.std.proofs.Common.{length, length-drop, Ok, Err, Some, None, add-one, add-zero, add-suc}
+use Rattle.std.proofs.Common.{length, Ok, Err, Some, None, add-one, add-zero, add-suc}
 use Rattle.hm_base.specs.Image.{Segment, flash_byte}
 use Rattle.hm_codes.proofs.Exists.{exists}
 use Rattle.hm_codes.specs.Listing.{Listing, IsListing}
@@ -82,13 +82,6 @@ pub shows_end : (image : List Segment) (s : Sched) (t u : ℕ) (m : Shown) (o : 
 shows_end image s t u m o e le h =
     let sum : t + (u - t) ≡ u = omega arith in
     subst (λ (v : ℕ). Shows image s v m) sum (shows_later image s t (u - t) m o e h)
-
--- a machine that runs has a tick left
-pub left_below : (image : List Segment) (s : Sched) (t : ℕ) (m : Shown) → Shows image s t m → m.outcome ≡ None → 0 < length m.left
-    → suc t ≤ length (ticks_of s.lines)
-left_below image s t m h none some =
-    let left : length m.left ≡ length (ticks_of s.lines) - t = ap length (h.left none) ∙ length-drop t (ticks_of s.lines) in
-    omega arith
 
 -- past the end of its schedule a machine has ended, and shows the end
 pub shows_past : (image : List Segment) (s : Sched) (t : ℕ) (m : Shown) → length (ticks_of s.lines) ≤ t → Shows image s t m

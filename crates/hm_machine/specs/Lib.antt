@@ -1,5 +1,7 @@
 pub mod Ticked
 pub mod Shown
+pub mod Passing
+pub mod ShortReport
 pub mod Machines
 pub mod Calls
 pub mod Checkpoints

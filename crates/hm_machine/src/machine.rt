@@ -1,13 +1,15 @@
 //! The machine.
 
-ghost use Rattle.std.specs.Prelude.{◌≡◌, ℕ, suc, ◌+◌, ◌-◌, ◌<◌, ◌≤◌, ◌↔◌, ◌%◌, List, [], ◌∷◌, ◌++◌, length, drop, reverse, None, Some, IsSome, IfOk, IfErr};
-ghost use Rattle.std.specs.Prelude.{IfNone, IfSome, OnSome, IsTrue};
+ghost use Rattle.std.specs.Prelude.{◌≡◌, ℕ, suc, ◌+◌, ◌-◌, ◌<◌, ◌≤◌, ◌%◌, List, [], ◌∷◌, ◌++◌, length, drop, reverse, None, Some, IsSome, IfOk, IfErr};
+ghost use Rattle.std.specs.Prelude.{IfNone, IfSome, OnSome};
 ghost use Rattle.hm_base.specs.Image.{Segment, flash_byte};
 ghost use Rattle.hm_codes.specs.Listing.{Listing, IsListing, Stands};
 ghost use Rattle.hm_isa.specs.declared.Instr.{Instr};
 ghost use Rattle.hm_machine.specs.Bares.{IsBare, ShowsGiven, may_pair};
+ghost use Rattle.hm_machine.specs.Passing.{Passes};
 ghost use Rattle.hm_machine.specs.Shown.{Shows, fixed_of, run_of, timed_of};
 ghost use Rattle.hm_machine.specs.Calls.{tick_answer, LoadRefuses};
+ghost use Rattle.hm_machine.specs.ShortReport.{is_fault, short_report};
 ghost use Rattle.hm_mem.specs.Memory.{flash_at, memory_of, told_at, tainted_at};
 ghost use Rattle.hm_run.specs.Bare.{bare, bare_program};
 ghost use Rattle.hm_run.specs.Headline.{Headline, PlainReport, Riders};
@@ -28,14 +30,15 @@ use crate::memory_text::memory_text;
 use crate::start::Start;
 use crate::tick::tick;
 use hm_base::{Image, OutOfMemory, SRAM_START};
-use hm_cpu::{Cpu, DecodedTable, LastDecoded, Letters, OUTPUT, ready};
+use hm_cpu::{Cpu, DecodedTable, Letters, OUTPUT, Uncached, ready};
 use hm_decode::fetch;
 use hm_exc::{Activation, Acts};
 use hm_isa::Instr;
 use hm_mem::{Mem, Still};
 use hm_regs::Regs;
+use hm_report_lines::outcome_line;
 use hm_run::{Outcome, Turn};
-use hm_sched::{Line, Schedule};
+use hm_sched::{Line, MOST_TICKS, Schedule};
 use hm_window::Window;
 use std::alloc::Global;
 use std::marker::Model;
@@ -76,6 +79,13 @@ fn first_outcome(schedule: &Schedule) -> Option<Outcome>
     } else {
         None
     }
+}
+
+/// Whether a run ended with a fault.
+fn is_fault(outcome: Option<Outcome>) -> bool
+    ensures { result ≡ is_fault outcome }
+{
+    matches!(outcome, Some(Outcome::Fault { .. }))
 }
 
 impl Machine {
@@ -316,26 +326,26 @@ impl Machine {
         ensures taint { (image : List Segment) (s : Sched) (t : ℕ) (listing : Listing) → IsListing (flash_byte image) listing → Shows image s t self.old
             → TaintLies s (run listing image s (suc t)).entries (timed_of self.new).config.state }
     {
-        self.tick_with(&mut LastDecoded::EMPTY)
+        self.tick_with(&mut Uncached)
     }
 
-    /// Does so many ticks, with what was decoded of late.
-    fn pass_with<L: Letters>(&mut self, count: u32, recent: &mut L)
-        ensures shows { (image : List Segment) (s : Sched) (t : ℕ) → Shows image s t self.old → Shows image s (t + count) self.new }
-        ensures fixed { fixed_of self.new ≡ fixed_of self.old }
+    /// Does so many ticks, or those until the run ends, with what was decoded of late.
+    fn go_on<L: Letters>(&mut self, count: u32, recent: &mut L)
+        ensures passes { Passes count self.old self.new }
     {
         for _k in 0..count {
-            let _turn = self.tick_with(recent);
+            if let Turn::Ended(_) = self.tick_with(recent) {
+                return;
+            }
         }
     }
 
-    /// Does so many ticks, with a table: apart from `pass`, so that a few ticks leave no room on the stack for one.
+    /// The same with a table: apart from `pass`, so that a few ticks leave no room on the stack for one.
     #[inline(never)]
-    fn pass_with_table(&mut self, count: u32)
-        ensures shows { (image : List Segment) (s : Sched) (t : ℕ) → Shows image s t self.old → Shows image s (t + count) self.new }
-        ensures fixed { fixed_of self.new ≡ fixed_of self.old }
+    fn go_on_with_table(&mut self, count: u32)
+        ensures passes { Passes count self.old self.new }
     {
-        self.pass_with(count, &mut DecodedTable::EMPTY);
+        self.go_on(count, &mut DecodedTable::EMPTY);
     }
 
     /// Does so many ticks; of a run that has ended, none. It takes no memory.
@@ -347,9 +357,9 @@ impl Machine {
     {
         // to make a table takes as long as some fifty ticks
         if count < 64 {
-            self.pass_with(count, &mut LastDecoded::EMPTY);
+            self.go_on(count, &mut Uncached);
         } else {
-            self.pass_with_table(count);
+            self.go_on_with_table(count);
         }
     }
 
@@ -391,7 +401,7 @@ impl Machine {
             letters,
             &[0; 8],
             false,
-            &mut LastDecoded::EMPTY,
+            &mut Uncached,
             &mut self.cpu,
         ) {
             Err(outcome) => {
@@ -403,15 +413,7 @@ impl Machine {
         }
     }
 
-    /// Whether the run goes on.
-    fn is_running(&self) -> bool
-        ensures { IsTrue result ↔ (self.now.outcome ≡ None) }
-    {
-        self.outcome.is_none()
-    }
-
     /// Does ticks until the run ends, one for each tick of the schedule at most. It takes no memory.
-    #[inline(never)]
     pub fn run(&mut self) -> Outcome
         ensures shows { (image : List Segment) (s : Sched) (t : ℕ) → Shows image s t self.old → Shows image s (length (ticks_of s.lines)) self.new }
         ensures outcome { self.new.outcome ≡ Some result }
@@ -439,10 +441,8 @@ impl Machine {
         ensures taint { (image : List Segment) (s : Sched) (t : ℕ) (listing : Listing) → IsListing (flash_byte image) listing → Shows image s t self.old
             → TaintLies s (run_out listing image s).entries (timed_of self.new).config.state }
     {
-        let mut recent = DecodedTable::EMPTY;
-        while self.is_running() {
-            let _turn = self.tick_with(&mut recent);
-        }
+        // no schedule has more ticks; where none are left, as without lines, one more turn ends it
+        self.go_on_with_table(MOST_TICKS + 1 - self.ticks);
         match self.outcome {
             Some(outcome) => outcome,
             None => unreachable!(),
@@ -582,6 +582,18 @@ impl Machine {
             self.cpu.window,
             &self.cpu.output,
         )
+    }
+
+    /// The report of a run, of a fault the first line alone.
+    pub fn short_report(&self, alloc: Global) -> Result<Vec<u8>, OutOfMemory>
+        ensures { IfOk result (λ text. text.items ≡ short_report (timed_of self.now)) }
+    {
+        let outcome = self.outcome();
+        if is_fault(outcome) {
+            outcome_line(alloc, outcome)
+        } else {
+            self.report(alloc)
+        }
     }
 
     /// The memory file: the bytes of SRAM, and then their taint, bit j of byte k that of byte 8k + j.
