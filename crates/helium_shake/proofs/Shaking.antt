@@ -8,9 +8,9 @@ use Rattle.hm_commands.specs.Calls.{MakesCalls, read_calls, to_fault, to_memory,
 use Rattle.hm_commands.specs.Effect.{Reading, too_large, whole}
 use Rattle.hm_commands.specs.declared.status.Status.{Status}
 use Rattle.hm_commands.specs.declared.status.Status.TheVariants.{Done, Ended, HostFault, NoMemory, Refused, Usage}
-use Rattle.hm_commands.specs.declared.work.Refusal.TheVariants.{FileTooLarge}
-use Rattle.hm_commands.specs.declared.work.Stop.{Stop}
-use Rattle.hm_commands.specs.declared.work.Stop.TheVariants as stop
+use Rattle.hm_work.specs.declared.work.Refusal.TheVariants.{FileTooLarge}
+use Rattle.hm_work.specs.declared.work.Stop.{Stop}
+use Rattle.hm_work.specs.declared.work.Stop.TheVariants as stop
 use Rattle.hm_host.specs.Host.{FileMap, HostState, Rose, Stays}
 use Rattle.hm_shake.specs.declared.shaking.Findings.{Findings}
 use Rattle.helium_shake.specs.Effects.{Carries, Effect, GivesEffect, IsDone, IsEffect, IsEffectFor, Shakes, calls_for, found_effect, refused_effect}

@@ -4,16 +4,16 @@ use Rattle.std.specs.Prelude.{◌≡◌, ◌⊎◌, ◌++◌, ℕ, List, [], ◌
 use Rattle.hm_base.specs.Image.{Segment}
 use Rattle.hm_codes.specs.Listing.{Listing}
 use Rattle.hm_commands.specs.Calls.{MakesCalls, read_calls, way_of}
-use Rattle.hm_commands.specs.Commands.{OfRunBy, UnlessRefusedBy}
+use Rattle.hm_work.specs.Commands.{OfRunBy, UnlessRefusedBy}
 use Rattle.hm_commands.specs.Effect.{BeginsOne, Reading, missing, reading_of, refused_line, too_large, whole}
-use Rattle.hm_commands.specs.Images.{image_of}
-use Rattle.hm_commands.specs.Run.{reset_refusal}
-use Rattle.hm_commands.specs.Work.{GivesBy}
+use Rattle.hm_work.specs.Images.{image_of}
+use Rattle.hm_work.specs.Run.{reset_refusal}
+use Rattle.hm_work.specs.Work.{GivesBy}
 use Rattle.hm_commands.specs.declared.status.Status.{Status}
 use Rattle.hm_commands.specs.declared.status.Status.TheVariants.{Done, Ended, HostFault, NoMemory, Refused, Usage}
-use Rattle.hm_commands.specs.declared.work.Refusal.{Refusal}
-use Rattle.hm_commands.specs.declared.work.Refusal.TheVariants.{FileTooLarge}
-use Rattle.hm_commands.specs.declared.work.Stop.{Stop}
+use Rattle.hm_work.specs.declared.work.Refusal.{Refusal}
+use Rattle.hm_work.specs.declared.work.Refusal.TheVariants.{FileTooLarge}
+use Rattle.hm_work.specs.declared.work.Stop.{Stop}
 use Rattle.hm_host.specs.Host.{AddsPrefix, Becomes, Call, Changes, FileMap, HostState, KeepsOthers, Rose, Stays, print, write}
 use Rattle.hm_host.specs.declared.host.HostErr.{HostErr}
 use Rattle.hm_host.specs.declared.host.HostErr.TheVariants.{Failed, OutOfMemory, TooLarge}

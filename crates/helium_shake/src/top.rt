@@ -4,7 +4,7 @@ ghost use Rattle.std.specs.Prelude.{◌≡◌, ◌≤◌, ◌∷◌, [], List, S
 ghost use Rattle.hm_base.specs.Image.{Segment};
 ghost use Rattle.hm_codes.specs.Listing.{Listing};
 ghost use Rattle.hm_commands.specs.Calls.{MakesCalls, answer_way, way_of};
-ghost use Rattle.hm_commands.specs.Commands.{AreListings};
+ghost use Rattle.hm_work.specs.Commands.{AreListings};
 ghost use Rattle.hm_host.specs.Host.{Counts, Stays, Writes, longest};
 ghost use Rattle.helium_shake.specs.Effects.{Carries, Effect, GivesEffect, IsEffectFor, IsRunEffect, Shakes, WritesFiles, calls_for, file_of};
 ghost use Rattle.helium_shake.specs.Effects.{found_effect, refused_effect, status_for, write_call};
@@ -14,12 +14,11 @@ ghost use Rattle.helium_shake.specs.Words.{asked_of, meant};
 use crate::command::Command;
 use crate::texts::{file_name, findings_text};
 use crate::words::parse;
-use hm_commands::{
-    Refusal, RunInput, Status, Stop, failure, read_all, read_run, refuse, say_usage,
-};
+use hm_commands::{Status, failure, read_all, refuse, say_usage};
 use hm_host::{Host, HostErr};
 use hm_shake::{Findings, Progress, Written, shake};
 use hm_words::Source;
+use hm_work::{Refusal, RunInput, Stop, read_run};
 use std::alloc::Global;
 
 /// What is found of an image under a schedule.

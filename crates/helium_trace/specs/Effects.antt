@@ -2,11 +2,11 @@
 use Rattle.std.specs.Prelude.{◌≡◌, ℕ, true, List, [], Option, Some, None, codes, get_or}
 use Rattle.hm_base.specs.Image.{Segment}
 use Rattle.hm_codes.specs.Listing.{Listing}
-use Rattle.hm_commands.specs.Commands.{OfRun, UnlessRefused}
+use Rattle.hm_work.specs.Commands.{OfRun, UnlessRefused}
 use Rattle.hm_commands.specs.Effect.{DoesOne, Effect, IsEffectBy, Reading, usage_by}
-use Rattle.hm_commands.specs.Images.{image_of}
-use Rattle.hm_commands.specs.Run.{reset_refusal, schedule_in}
-use Rattle.hm_commands.specs.Work.{Outcome, finishes}
+use Rattle.hm_work.specs.Images.{image_of}
+use Rattle.hm_work.specs.Run.{reset_refusal, schedule_in}
+use Rattle.hm_work.specs.Work.{Outcome, finishes}
 use Rattle.hm_commands.specs.declared.status.Status.{Status}
 use Rattle.hm_host.specs.Host.{HostState}
 use Rattle.hm_sched.specs.Schedule.{Sched}

@@ -3,18 +3,17 @@
 ghost use Rattle.std.specs.Prelude.{◌≡◌, ◌≤◌, List, Some, map, option_map, string_bytes, All, length};
 ghost use Rattle.hm_base.specs.Image.{Segment};
 ghost use Rattle.hm_codes.specs.Listing.{Listing};
-ghost use Rattle.hm_commands.specs.Commands.{AreListings};
-ghost use Rattle.hm_commands.specs.Work.{GivesOne, finish_of};
+ghost use Rattle.hm_work.specs.Commands.{AreListings};
+ghost use Rattle.hm_work.specs.Work.{GivesOne, finish_of};
 ghost use Rattle.hm_host.specs.Host.{longest};
 ghost use Rattle.helium_trace.specs.Effects.{ComesTo, IsTraceOutcome, Traces, form_for, traced};
 ghost use Rattle.helium_trace.specs.Words.{asked_of, meant, reads_of};
 
 use crate::words::{Command, parse};
-use hm_commands::{
-    Finish, Refusal, RunInput, Status, Stop, conclude, read_all, read_run, refuse, say_usage,
-};
+use hm_commands::{Status, conclude, read_all, refuse, say_usage};
 use hm_host::{Host, HostErr};
 use hm_trace::{Form, trace};
+use hm_work::{Finish, Refusal, RunInput, Stop, read_run};
 use std::alloc::Global;
 
 /// What is to be done with a trace: it is printed, or its page is written to a file.

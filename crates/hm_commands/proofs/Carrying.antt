@@ -6,11 +6,11 @@ use Rattle.hm_host.specs.declared.host.HostErr.{HostErr}
 use Rattle.hm_host.specs.declared.host.HostErr.TheVariants.{Failed, TooLarge, OutOfMemory}
 use Rattle.hm_commands.specs.declared.status.Status.{Status}
 use Rattle.hm_commands.specs.declared.status.Status.TheVariants.{Done, Ended, Usage, Refused, HostFault, NoMemory}
-use Rattle.hm_commands.specs.declared.work.Finish.{Finish}
-use Rattle.hm_commands.specs.declared.work.Refusal.TheVariants.{FileTooLarge}
-use Rattle.hm_commands.specs.declared.work.Stop.{Stop}
-use Rattle.hm_commands.specs.declared.work.Stop.TheVariants as stop
-use Rattle.hm_commands.specs.Work.{Outcome, refuses, finish_of, Gives, GivesOne}
+use Rattle.hm_work.specs.declared.work.Finish.{Finish}
+use Rattle.hm_work.specs.declared.work.Refusal.TheVariants.{FileTooLarge}
+use Rattle.hm_work.specs.declared.work.Stop.{Stop}
+use Rattle.hm_work.specs.declared.work.Stop.TheVariants as stop
+use Rattle.hm_work.specs.Work.{Outcome, refuses, finish_of, Gives, GivesOne}
 use Rattle.hm_commands.specs.Calls.{read_calls, write_calls, print_calls, with_calls, to_end, to_fault, to_memory, way_of, answer_way, MakesCalls}
 use Rattle.hm_commands.specs.Calls.{MakesAll}
 use Rattle.hm_commands.specs.Effect.{Effect, Reading, whole, too_large, missing, reading_of, IsEffectBy, effect_for, calls_for, IsDone, Carries, DoesOne}

@@ -6,7 +6,7 @@ use Rattle.hm_host.specs.Host.{FileMap, HostState, Stays, Rose}
 use Rattle.hm_commands.specs.declared.status.Status.{Status}
 use Rattle.hm_commands.specs.declared.status.Status.TheVariants.{Usage, Refused, HostFault, NoMemory}
 use Rattle.hm_words.specs.Words.{Form, form_of}
-use Rattle.hm_commands.specs.Work.{Outcome, finishes}
+use Rattle.hm_work.specs.Work.{Outcome, finishes}
 use Rattle.hm_commands.specs.Effect.{Effect, Reading, whole, too_large, missing, reading_of, reads_for, IsEffectAfter, IsEffectBy, IsEffect, effect_for}
 use Rattle.hm_commands.specs.Effect.{BeginsOne, IsBegun, IsDone, IsUntouched, Carries, Does, DoesOne}
 

@@ -10,7 +10,7 @@ use Rattle.hm_codes.specs.Listing.{Listing, IsListing}
 use Rattle.hm_elf.specs.ReadImage.{image_in}
 use Rattle.hm_ihex.specs.Files.{hex_in}
 use Rattle.hm_ihex.proofs.HexFiles.{hex_only}
-use Rattle.hm_commands.specs.Images.{IsImageIn, IsImageOf, begins_as_hex, image_of}
+use Rattle.hm_work.specs.Images.{IsImageIn, IsImageOf, begins_as_hex, image_of}
 use Rattle.hm_elf.proofs.ReadLaws.{image_again}
 use Rattle.hm_handlers.proofs.Lying.{taint_lies}
 use Rattle.hm_handlers.proofs.Whole.{headline_every, riders_every}
@@ -26,20 +26,21 @@ use Rattle.hm_run.specs.Timed.{Timed}
 use Rattle.hm_state.specs.Start.{reset_pc}
 use Rattle.hm_commands.specs.declared.status.Status.{Status}
 use Rattle.hm_commands.specs.declared.status.Status.TheVariants.{Done, Ended, Usage, Refused, HostFault, NoMemory}
-use Rattle.hm_commands.specs.Commands.{AreListings, reported, told, run_outcome, seq_outcome, unless_refused}
+use Rattle.hm_work.specs.Commands.{AreListings, reported, told, run_outcome, seq_outcome, unless_refused}
 use Rattle.hm_commands.specs.Effect.{Effect, Reading, whole, then_read, reading_of, reads_for, IsEffect, IsEffectAfter, effect_for, with_file, with_text}
 use Rattle.hm_commands.specs.Effect.{BeginsOne, Carries, Does, IsBegun}
 use Rattle.hm_sched.specs.Schedule.{Sched, plain, ticks_of}
 use Rattle.hm_sched.specs.declared.errors.SchedErr.{SchedErr}
 use Rattle.hm_sched.proofs.FileLaws.{file_again}
 use Rattle.hm_commands.specs.Headline.{IsGiven, IsReported, RunsToHeadline, IsShownInOrder, RunsInOrder, has_halted}
-use Rattle.hm_commands.specs.Run.{is_fault, is_halted, short_report, schedule_in}
+use Rattle.hm_work.specs.Run.{is_halted, schedule_in}
+use Rattle.hm_machine.specs.ShortReport.{is_fault, short_report}
 use Rattle.hm_soak_laws.proofs.Line.{one_listing}
 use Rattle.hm_words.specs.Words.{Form, Source, ticks, file, run, seq, form_of, reads_of}
 use Rattle.hm_words.proofs.Forms.{form_of-run, form_of-seq}
 use Rattle.hm_commands.proofs.Ending.{Does-begins, untouched_wanted}
-use Rattle.hm_commands.proofs.Listed.{some_listings}
-use Rattle.hm_commands.proofs.Runs.{reset_refusal-odd}
+use Rattle.hm_work.proofs.Listed.{some_listings}
+use Rattle.hm_work.proofs.Runs.{reset_refusal-odd}
 
 -- a file that holds an image is read as it
 image_of_again : (bytes : List ℕ) (image : List Segment) → IsImageOf bytes image → image_of bytes ≡ Ok image

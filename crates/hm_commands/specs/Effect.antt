@@ -8,11 +8,11 @@ use Rattle.hm_host.specs.declared.host.HostErr.{HostErr}
 use Rattle.hm_host.specs.declared.host.HostErr.TheVariants.{Failed, TooLarge, OutOfMemory}
 use Rattle.hm_commands.specs.declared.status.Status.{Status}
 use Rattle.hm_commands.specs.declared.status.Status.TheVariants.{Done, Ended, Usage, Refused, HostFault, NoMemory}
-use Rattle.hm_commands.specs.declared.work.Refusal.{Refusal}
-use Rattle.hm_commands.specs.declared.work.Refusal.TheVariants.{FileTooLarge}
-use Rattle.hm_commands.specs.Work.{Outcome, finishes, refuses, refusal_text}
+use Rattle.hm_work.specs.declared.work.Refusal.{Refusal}
+use Rattle.hm_work.specs.declared.work.Refusal.TheVariants.{FileTooLarge}
+use Rattle.hm_work.specs.Work.{Outcome, finishes, refuses, refusal_text}
 use Rattle.hm_words.specs.Words.{Form, form_of, reads_of}
-use Rattle.hm_commands.specs.Commands.{ComesTo}
+use Rattle.hm_work.specs.Commands.{ComesTo}
 use Rattle.hm_commands.specs.Calls.{Way, to_end, to_fault, to_memory, read_calls, write_calls, print_calls, way_of, MakesCalls, MakesAll}
 
 -- the number of a status

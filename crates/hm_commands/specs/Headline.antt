@@ -3,7 +3,7 @@ use Rattle.std.specs.Prelude.{◌≡◌, ◌≢◌, ◌⊎◌, ℕ, ◌%◌, ◌
 use Rattle.std.specs.FinMap.{get, insert}
 use Rattle.hm_base.specs.Image.{Segment, flash_byte}
 use Rattle.hm_codes.specs.Listing.{Listing, IsListing}
-use Rattle.hm_commands.specs.Images.{IsImageOf}
+use Rattle.hm_work.specs.Images.{IsImageOf}
 use Rattle.hm_handlers.specs.Runs.{run_out, shown_out}
 use Rattle.hm_handlers.specs.Taint.{TaintLies}
 use Rattle.hm_host.specs.Host.{FileMap, HostState, longest}
@@ -14,7 +14,7 @@ use Rattle.hm_sched.specs.Written.{IsFile}
 use Rattle.hm_state.specs.Start.{reset_pc}
 use Rattle.hm_commands.specs.declared.status.Status.{Status}
 use Rattle.hm_commands.specs.declared.status.Status.TheVariants.{Done, Ended, HostFault, NoMemory}
-use Rattle.hm_commands.specs.Run.{is_halted}
+use Rattle.hm_work.specs.Run.{is_halted}
 use Rattle.hm_words.specs.Words.{Source, ticks, file, IsRun, IsSeq}
 
 -- a source gives a schedule: its plain ticks, or what its file, which is there, writes

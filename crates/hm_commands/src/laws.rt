@@ -9,8 +9,8 @@ ghost use Rattle.hm_ihex.specs.Written.{AreBytes, hex_file};
 ghost use Rattle.hm_kernel.specs.Compiled.{Compiles};
 ghost use Rattle.hm_sched.specs.Schedule.{Sched};
 ghost use Rattle.hm_sched.specs.declared.errors.SchedErr.{SchedErr};
-ghost use Rattle.hm_commands.specs.Commands.{AreListings, run_outcome};
-ghost use Rattle.hm_commands.specs.Images.{image_of};
+ghost use Rattle.hm_work.specs.Commands.{AreListings, run_outcome};
+ghost use Rattle.hm_work.specs.Images.{image_of};
 ghost use Rattle.hm_commands.specs.Effect.{Effect, IsEffect};
 ghost use Rattle.hm_words.specs.Words.{form_of, kernel};
 

@@ -2,12 +2,12 @@
 
 ghost use Rattle.std.specs.Prelude.{◌≡◌, ◌≤◌, Some, Err, map, option_map, length, vec_len, IfOk, All};
 ghost use Rattle.hm_host.specs.Host.{FileMap, Stays, Counts, longest};
-ghost use Rattle.hm_commands.specs.Work.{output_pair};
+ghost use Rattle.hm_work.specs.Work.{output_pair};
 ghost use Rattle.hm_commands.specs.Calls.{MakesAll, MakesCalls, answer_way, read_calls, write_calls, print_calls};
 ghost use Rattle.hm_commands.specs.Effect.{ReadsAll, WritesFile, PrintsText};
 
-use crate::work::Output;
 use hm_host::{Host, HostErr};
+use hm_work::Output;
 use std::alloc::Global;
 
 /// The contents of these files, in order.

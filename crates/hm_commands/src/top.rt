@@ -3,23 +3,22 @@
 ghost use Rattle.std.specs.Prelude.{◌≡◌, ◌<◌, ◌++◌, List, Some, None, Err, map, option_map, string_bytes, IfOk};
 ghost use Rattle.hm_base.specs.Image.{Segment};
 ghost use Rattle.hm_codes.specs.Listing.{Listing};
-ghost use Rattle.hm_commands.specs.Commands.{AreListings};
+ghost use Rattle.hm_work.specs.Commands.{AreListings};
 ghost use Rattle.hm_commands.specs.Headline.{RunsInOrder, RunsToHeadline};
 ghost use Rattle.hm_host.specs.Host.{FileMap, Rose, Stays};
 ghost use Rattle.hm_words.specs.Words.{form_of, meant};
-ghost use Rattle.hm_commands.specs.Work.{Outcome, Gives, output_pair, refuses};
+ghost use Rattle.hm_work.specs.Work.{Outcome, Gives, output_pair, refuses};
 ghost use Rattle.hm_commands.specs.Effect.{Carries, Does, DoesEffect, Effect, IsComplete, IsEffect, StaysOrMakesAll, calls_for, effect_for, reads_for};
 ghost use Rattle.hm_commands.specs.Effect.{usage_by, usage_effect, refused_line, failure_of};
 ghost use Rattle.hm_commands.specs.Calls.{MakesCalls, print_calls, read_calls, way_of, write_calls};
 
-use crate::commands::perform;
 use crate::outside::{print_text, read_all, write_file};
 use crate::status::Status;
-use crate::work::{Finish, Output, Refusal, Stop};
 use hm_base::OutOfMemory;
 use hm_host::{Host, HostErr};
 use hm_text_base::text;
 use hm_words::{Command, parse};
+use hm_work::{Finish, Output, Refusal, Stop, perform};
 use std::alloc::Global;
 
 /// The status of a host's error.

@@ -1,6 +1,6 @@
 use Rattle.std.proofs.Common.{Ok, refl}
 use Rattle.std.proofs.lemmas.Result.{err_from_is_err_and}
-use Rattle.hm_commands.proofs.RunInputs.{load_goes_on, load_stops}
+use Rattle.hm_work.proofs.RunInputs.{load_goes_on, load_stops}
 use Rattle.helium_shake.specs.Effects.{IsFoundEffect, found_effect, refused_effect}
 use Rattle.helium_shake.specs.Words.{meant}
 use Rattle.helium_shake.proofs.top.found.Goals as goal

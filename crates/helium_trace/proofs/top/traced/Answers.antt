@@ -1,7 +1,7 @@
 use Rattle.std.proofs.Common.{◌≡◌, List, ℕ, Ok, ap, ◌∙◌}
 use Rattle.std.proofs.lemmas.Result.{err_from_is_err_and}
-use Rattle.hm_commands.proofs.RunInputs.{load_goes_on, load_stops}
-use Rattle.hm_commands.specs.Work.{Outcome, finish_of, refuses}
+use Rattle.hm_work.proofs.RunInputs.{load_goes_on, load_stops}
+use Rattle.hm_work.specs.Work.{Outcome, finish_of, refuses}
 use Rattle.hm_trace.specs.Traces.{trace_text}
 use Rattle.hm_trace.specs.declared.running.Form.{Form}
 use Rattle.helium_trace.specs.Effects.{form_for, traced}

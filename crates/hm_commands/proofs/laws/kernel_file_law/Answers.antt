@@ -1,4 +1,4 @@
-use Rattle.hm_commands.proofs.Compiling.{compiled_held}
+use Rattle.hm_work.proofs.Compiling.{compiled_held}
 use Rattle.hm_commands.proofs.laws.kernel_file_law.Goals as goal
 
 pub returns : goal.returns

@@ -1,4 +1,4 @@
-use Rattle.hm_commands.proofs.Listed.{some_listings}
+use Rattle.hm_work.proofs.Listed.{some_listings}
 use Rattle.hm_commands.proofs.laws.listings_exist.Goals as goal
 
 pub returns : goal.returns

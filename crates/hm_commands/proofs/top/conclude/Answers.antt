@@ -1,6 +1,6 @@
 use Rattle.std.proofs.Common.{◌≡◌, Some, inl, subst}
 use Rattle.hm_commands.specs.declared.status.Status.TheVariants.{Refused}
-use Rattle.hm_commands.specs.Work.{finish_of, refuses}
+use Rattle.hm_work.specs.Work.{finish_of, refuses}
 use Rattle.hm_commands.specs.Calls.{MakesCalls, way_of}
 use Rattle.hm_commands.specs.Effect.{Carries, StaysOrMakesAll, calls_for, effect_for, refused_line}
 use Rattle.hm_commands.proofs.Carrying.{stays_spent}

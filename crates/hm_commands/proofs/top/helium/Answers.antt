@@ -5,7 +5,7 @@ use Rattle.hm_words.specs.Words.{form_of}
 use Rattle.hm_commands.proofs.Carrying.{usage_said}
 use Rattle.hm_commands.proofs.Ending.{Does-begins, DoesOne-usage, DoesOne-host_fault, DoesOne-risen, DoesOne-quiet}
 use Rattle.hm_commands.proofs.Headlines.{headline_of, headline_of_none, order_of, order_of_none}
-use Rattle.hm_commands.proofs.Listed.{some_listings}
+use Rattle.hm_work.proofs.Listed.{some_listings}
 use Rattle.hm_commands.proofs.Single.{does_one}
 use Rattle.hm_commands.proofs.SomeEffect.{some_effect}
 use Rattle.hm_commands.proofs.top.helium.Goals as goal

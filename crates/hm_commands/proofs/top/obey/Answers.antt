@@ -1,7 +1,7 @@
 use Rattle.std.proofs.Common.{◌≡◌, List, ℕ, refl, map, length, ap, sym, subst, ◌∙◌}
 use Rattle.std.proofs.lemmas.List.{length-map}
 use Rattle.hm_commands.specs.Calls.{MakesCalls, read_calls, to_fault, to_memory}
-use Rattle.hm_commands.specs.Commands.{ComesTo}
+use Rattle.hm_work.specs.Commands.{ComesTo}
 use Rattle.hm_words.specs.Words.{meant, reads_of}
 use Rattle.hm_commands.proofs.Calling.{none_made}
 use Rattle.hm_commands.proofs.Carrying.{are_read, failed, lost, reached_large, reached_whole}

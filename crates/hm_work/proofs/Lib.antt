@@ -1,0 +1,9 @@
+pub mod Listed
+pub mod Runs
+pub mod Contents
+pub mod RunInputs
+pub mod Taping
+pub mod HexRuns
+pub mod Compiling
+pub mod OneOutcome
+pub mod SomeOutcome

@@ -1,0 +1,5 @@
+pub mod Images
+pub mod Work
+pub mod Run
+pub mod Commands
+pub mod RunInputs
