@@ -4,7 +4,7 @@ ghost use Rattle.std.specs.Prelude.{◌<◌};
 
 use crate::runs::{image_of, shown};
 use anyhow::{Context, Result, bail};
-use hm_base::draw;
+use hm_base::{Image, draw};
 use hm_machine::{Machine, Past, Tape};
 use hm_sched::{MOST_TICKS, parse};
 use std::alloc::Global;
@@ -40,7 +40,7 @@ fn asked(order: Order, k: usize, count: usize, drawn: u32) -> usize
 }
 
 /// What a machine shows at each tick of its run, from its start to its end.
-fn film_of(alloc: Global, machine: &mut Machine) -> Result<Vec<Vec<u8>>> {
+fn filmed(alloc: Global, machine: &mut Machine) -> Result<Vec<Vec<u8>>> {
     let mut film = Vec::new(alloc);
     film.push(shown(alloc, machine)?)?;
     for _ in 0..MOST_TICKS {
@@ -51,6 +51,17 @@ fn film_of(alloc: Global, machine: &mut Machine) -> Result<Vec<Vec<u8>>> {
         film.push(shown(alloc, machine)?)?;
     }
     Ok(film)
+}
+
+/// What the machine of an image shows at each tick of its run under a schedule.
+fn film_of(alloc: Global, image: &Image, schedule: &[u8]) -> Result<Vec<Vec<u8>>> {
+    let mut machine = Machine::load(alloc, image, parse(alloc, schedule)?)?;
+    filmed(alloc, &mut machine)
+}
+
+/// The tape of an image under a schedule.
+fn tape_of(alloc: Global, image: &Image, schedule: &[u8]) -> Result<Tape> {
+    Ok(Tape::new(alloc, image, parse(alloc, schedule)?)?)
 }
 
 /// What a tape shows at a tick.
@@ -95,12 +106,16 @@ fn compared(alloc: Global, tape: &mut Tape, film: &[Vec<u8>], order: Order) -> R
     Ok(format!(in alloc; "{alike} of {count} alike, last {last}, then {behind}")?)
 }
 
+/// What comes of a run of an image on a tape.
+fn taped_image(alloc: Global, order: Order, image: &Image, schedule: &[u8]) -> Result<String> {
+    let film = film_of(alloc, image, schedule)?;
+    let mut tape = tape_of(alloc, image, schedule)?;
+    compared(alloc, &mut tape, &film, order)
+}
+
 /// What comes of a run on a tape, whose ticks are asked for in an order.
 pub fn taped(alloc: Global, order: &str, source: &[u8], schedule: &[u8]) -> Result<String> {
     let order = order_of(order)?;
     let image = image_of(alloc, source)?;
-    let mut machine = Machine::load(alloc, &image, parse(alloc, schedule)?)?;
-    let film = film_of(alloc, &mut machine)?;
-    let mut tape = Tape::new(alloc, &image, parse(alloc, schedule)?)?;
-    compared(alloc, &mut tape, &film, order)
+    taped_image(alloc, order, &image, schedule)
 }

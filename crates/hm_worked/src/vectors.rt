@@ -66,15 +66,31 @@ fn touch_text(alloc: Global, touch: &Touch) -> Result<String, AllocError> {
     Ok(text)
 }
 
-/// The places that a beat of an instruction reads and writes: VPR, FPSCR and beat.
-pub fn touched(alloc: Global, text: &str, words: &mut SplitWhitespace<'_>) -> Result<String> {
-    let row = row(alloc, text)?.context("no vector instruction")?;
+/// The next word, a beat.
+fn read_beat(words: &mut SplitWhitespace<'_>) -> Result<u8>
+    ensures below { IfOk result (λ beat. beat < 4) }
+{
+    let beat = read_number(words)?;
+    ensure!(beat < 4, "no beat");
+    Ok(beat as u8)
+}
+
+/// The registers with these VPR and FPSCR.
+fn read_status(words: &mut SplitWhitespace<'_>) -> Result<Regs>
+    ensures context { IfOk result (λ regs. IsTrue regs.fpca) }
+{
     let mut regs = with_context();
     regs.vpr = read_number(words)?;
     regs.fpscr = read_number(words)?;
-    let beat = read_number(words)?;
-    ensure!(beat < 4, "no beat");
-    Ok(touch_text(alloc, &row.touch(beat as u8, &regs))?)
+    Ok(regs)
+}
+
+/// The places that a beat of an instruction reads and writes: VPR, FPSCR and beat.
+pub fn touched(alloc: Global, text: &str, words: &mut SplitWhitespace<'_>) -> Result<String> {
+    let row = row(alloc, text)?.context("no vector instruction")?;
+    let regs = read_status(words)?;
+    let beat = read_beat(words)?;
+    Ok(touch_text(alloc, &row.touch(beat, &regs))?)
 }
 
 /// How many beats are done of two instructions.
@@ -90,6 +106,34 @@ fn position(words: &mut SplitWhitespace<'_>) -> Result<Window>
     })
 }
 
+/// The registers with these r0 and r1.
+fn read_bases(words: &mut SplitWhitespace<'_>) -> Result<Regs>
+    ensures context { IfOk result (λ regs. IsTrue regs.fpca) }
+{
+    let mut regs = with_context();
+    regs.r[0] = read_number(words)?;
+    regs.r[1] = read_number(words)?;
+    Ok(regs)
+}
+
+/// Whether the next beat of the younger of two instructions may be done, or which rule it breaks.
+fn overlap_text(
+    alloc: Global,
+    at: Window,
+    older: Option<&Any>,
+    younger: Option<&Any>,
+    regs: &Regs,
+    mem: &Mem,
+) -> Result<String, AllocError>
+    requires position { at.a < 4 }
+    requires context { IsTrue regs.now.fpca }
+{
+    match lawful(at, older, younger, regs, mem) {
+        Ok(()) => String::from_str(alloc, "lawful"),
+        Err(rule) => Broken(rule).to_string(alloc),
+    }
+}
+
 /// Whether the next beat of the younger of two instructions, with `|` between them, may be done: the beats done of each, r0 and r1.
 pub fn overlapped(
     alloc: Global,
@@ -98,16 +142,11 @@ pub fn overlapped(
     mem: &Mem,
 ) -> Result<String> {
     let at = position(words)?;
-    let mut regs = with_context();
-    regs.r[0] = read_number(words)?;
-    regs.r[1] = read_number(words)?;
+    let regs = read_bases(words)?;
     let (older, younger) = texts.split_once(" | ").context("no two instructions")?;
     let older = row(alloc, older)?;
     let younger = row(alloc, younger)?;
-    match lawful(at, older.as_ref(), younger.as_ref(), &regs, mem) {
-        Ok(()) => Ok(String::from_str(alloc, "lawful")?),
-        Err(rule) => Ok(Broken(rule).to_string(alloc)?),
-    }
+    Ok(overlap_text(alloc, at, older.as_ref(), younger.as_ref(), &regs, mem)?)
 }
 
 /// Whether an instruction is refused before its first beat: FPSCR and lr.
