@@ -89,17 +89,19 @@ impl Setting {
         }
     }
 
-    /// Checks why no instruction stands at an address.
-    fn check_fault(&self, address: u32, words: &mut SplitWhitespace<'_>) -> Result<()> {
-        let kind = fault_kind(word(words)?).context("no kind")?;
-        let told = Fault {
-            kind,
-            addr: address,
-        };
+    /// The fault at an address, where no instruction stands.
+    fn fault_at(&self, address: u32) -> Result<Fault> {
         match fetch(&self.memory()?, address) {
             Ok(i) => bail!("here {:04x}", code_of(&i)),
-            Err(here) => ensure!(here == told, "here {here:?}"),
+            Err(fault) => Ok(fault),
         }
+    }
+
+    /// Checks why no instruction stands at an address.
+    fn check_fault(&self, addr: u32, words: &mut SplitWhitespace<'_>) -> Result<()> {
+        let kind = fault_kind(word(words)?).context("no kind")?;
+        let here = self.fault_at(addr)?;
+        ensure!(here == Fault { kind, addr }, "here {here:?}");
         Ok(())
     }
 

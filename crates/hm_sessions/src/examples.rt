@@ -103,6 +103,19 @@ fn write_example<W: Write>(
     Ok(())
 }
 
+/// Writes the plan of so many instructions of an example, and rows of its page.
+fn write_texts<W: Write>(
+    out: &mut W,
+    alloc: Global,
+    image: &Image,
+    instructions: u64,
+    schedule: &[u8],
+) -> Result<()> {
+    writeln!(out, "{}", plan_text(alloc, image, instructions)?)?;
+    write!(out, "{}", page_rows(alloc, image, schedule)?)?;
+    Ok(())
+}
+
 /// Runs an example, and writes what it comes to, its plan and rows of its page.
 fn write_run<W: Write>(
     out: &mut W,
@@ -113,9 +126,7 @@ fn write_run<W: Write>(
 ) -> Result<()> {
     let machine = run(alloc, image, schedule).context(format_args!("{name}"))?;
     write_example(out, alloc, name, &machine)?;
-    writeln!(out, "{}", plan_text(alloc, image, machine.retired())?)?;
-    write!(out, "{}", page_rows(alloc, image, schedule)?)?;
-    Ok(())
+    write_texts(out, alloc, image, machine.retired(), schedule)
 }
 
 /// The name of an example, and of one behind a number and a colon, in how many runs it is shaken.

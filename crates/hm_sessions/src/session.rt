@@ -228,26 +228,28 @@ impl Session {
         }
     }
 
-    /// Takes a line.
-    pub fn take(&mut self, line: &str) -> Result<Taken> {
-        let (word, text) = line.split_once(' ').unwrap_or((line, ""));
-        if let Some(bytes) = content(self.alloc, &self.named, &self.host, word, text)? {
-            let last = self.named.last_mut().context("no bytes have begun")?;
-            last.bytes.extend_from_slice(&bytes)?;
-            return Ok(Taken::Nothing);
-        }
+    /// Adds the bytes that a line says to the last that were given a name; false where it says none.
+    fn extends(&mut self, word: &str, text: &str) -> Result<bool> {
+        let Some(bytes) = content(self.alloc, &self.named, &self.host, word, text)? else {
+            return Ok(false);
+        };
+        let last = self.named.last_mut().context("no bytes have begun")?;
+        last.bytes.extend_from_slice(&bytes)?;
+        Ok(true)
+    }
+
+    /// Begins bytes that have a name.
+    fn begin_bytes(&mut self, name: &str) -> Result<()> {
+        let none = Vec::new(self.alloc);
+        self.named.push(Named::new(self.alloc, name, none)?)?;
+        Ok(())
+    }
+
+    /// Takes what a line gives; an empty line and a comment give nothing. False where it is no such line.
+    fn gives(&mut self, word: &str, text: &str) -> Result<bool> {
         match word {
             "" | "#" => {}
-            "case" => {
-                self.files.clear();
-                self.trial = None;
-                self.renew(&mut "".split_whitespace())?;
-                return Ok(Taken::Case);
-            }
-            "bytes" => {
-                let none = Vec::new(self.alloc);
-                self.named.push(Named::new(self.alloc, text, none)?)?;
-            }
+            "bytes" => self.begin_bytes(text)?,
             "put" => {
                 let last = self.named.last_mut().context("no bytes have begun")?;
                 put(&mut last.bytes, text)?;
@@ -255,11 +257,29 @@ impl Session {
             "file" => self.give(text)?,
             "tries" => self.trial = Some(Trial::new(self.alloc, text)?),
             "host" => self.renew(&mut text.split_whitespace())?,
-            _ => {
-                let holds = self.holds(word, text)?;
-                return Ok(Taken::Fact { holds });
-            }
+            _ => return Ok(false),
         }
-        Ok(Taken::Nothing)
+        Ok(true)
+    }
+
+    /// Begins a case: no files are given, and no command line is tried.
+    fn begin_case(&mut self) -> Result<()> {
+        self.files.clear();
+        self.trial = None;
+        self.renew(&mut "".split_whitespace())
+    }
+
+    /// Takes a line.
+    pub fn take(&mut self, line: &str) -> Result<Taken> {
+        let (word, text) = line.split_once(' ').unwrap_or((line, ""));
+        if word == "case" {
+            self.begin_case()?;
+            return Ok(Taken::Case);
+        }
+        if self.extends(word, text)? || self.gives(word, text)? {
+            return Ok(Taken::Nothing);
+        }
+        let holds = self.holds(word, text)?;
+        Ok(Taken::Fact { holds })
     }
 }

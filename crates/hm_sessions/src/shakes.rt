@@ -126,6 +126,28 @@ fn write_found<W: Write>(
     Ok(())
 }
 
+/// What a shake finds, which is to tell how far it is.
+fn told_shake(alloc: Global, image: &Image, schedule: &Schedule, runs: u32) -> Result<Findings> {
+    ensure!(1 <= runs && runs <= MOST_RUNS, "no shake has so many runs");
+    let mut quiet = Quiet { runs: 0, tries: 0 };
+    let found = shake(alloc, image, schedule, runs, SEED, &mut quiet)?;
+    ensure!(
+        quiet.runs == runs && (found.files.is_empty() || quiet.tries > 0),
+        "it was not told how far a shake is"
+    );
+    Ok(found)
+}
+
+/// How often each kind of outcome came, as a text. Two shakes from one seed are to have this and their schedules in common.
+fn counts_in_common(alloc: Global, one: &Findings, other: &Findings) -> Result<Vec<u8>> {
+    let counts = counts_text(alloc, one.plain, &one.kinds)?;
+    ensure!(
+        counts == counts_text(alloc, other.plain, &other.kinds)? && same_files(one, other),
+        "a seed gives two answers"
+    );
+    Ok(counts)
+}
+
 /// Writes the name of an example, how often each kind of outcome came in so many runs, and the schedules that were found, which come from a seed twice.
 pub fn write_shake<W: Write>(
     out: &mut W,
@@ -135,22 +157,11 @@ pub fn write_shake<W: Write>(
     schedule: &Schedule,
     runs: u32,
 ) -> Result<()> {
-    ensure!(1 <= runs && runs <= MOST_RUNS, "no shake has so many runs");
-    writeln!(out, "shake {name} {runs}")?;
     let plan = plan_of(alloc, image, schedule, runs)?;
-    let mut quiet = Quiet { runs: 0, tries: 0 };
-    let found = shake(alloc, image, schedule, runs, SEED, &mut quiet)?;
-    ensure!(
-        quiet.runs == runs && (found.files.is_empty() || quiet.tries > 0),
-        "it was not told how far a shake is"
-    );
-    let again = shake(alloc, image, schedule, runs, SEED, &mut quiet)?;
-    let counts = counts_text(alloc, found.plain, &found.kinds)?;
-    ensure!(
-        counts == counts_text(alloc, again.plain, &again.kinds)? && same_files(&found, &again),
-        "a seed gives two answers"
-    );
-    out.write_all(&counts)?;
+    writeln!(out, "shake {name} {runs}")?;
+    let found = told_shake(alloc, image, schedule, runs)?;
+    let again = told_shake(alloc, image, schedule, runs)?;
+    out.write_all(&counts_in_common(alloc, &found, &again)?)?;
     for written in &found.files {
         write_found(out, alloc, image, schedule, plan, &found.kinds, written)?;
     }

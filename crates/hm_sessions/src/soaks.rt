@@ -95,6 +95,23 @@ fn write_done<W: Write>(out: &mut W, machine: &Machine) -> Result<()> {
     Ok(())
 }
 
+/// Does so many runs of the soak of a number, and writes what the last one did.
+fn write_last<W: Write>(
+    out: &mut W,
+    alloc: Global,
+    number: u32,
+    ticks: Ticks,
+    times: u32,
+) -> Result<()> {
+    for time in 1..=times {
+        let machine = run(alloc, number, ticks)?;
+        if time == times {
+            write_done(out, &machine)?;
+        }
+    }
+    Ok(())
+}
+
 /// Does as many runs as are asked for, and writes what the last one did: overlapped, plain or planned, the number, how many, with colons between. Of a
 /// plan it writes first how dense it is.
 pub fn write_soak<W: Write>(out: &mut W, alloc: Global, asked: &str) -> Result<()> {
@@ -106,11 +123,5 @@ pub fn write_soak<W: Write>(out: &mut W, alloc: Global, asked: &str) -> Result<(
     if let Ticks::Planned = ticks {
         writeln!(out, "{}", density_text(alloc, chosen)?)?;
     }
-    for time in 1..=times {
-        let machine = run(alloc, chosen, ticks)?;
-        if time == times {
-            write_done(out, &machine)?;
-        }
-    }
-    Ok(())
+    write_last(out, alloc, chosen, ticks, times)
 }

@@ -64,21 +64,27 @@ impl Trial {
         Ok(MemHost::new(alloc, files, FailList::new(alloc)))
     }
 
-    /// Whether the command line ends so over these bytes; refused, it prints one line and leaves each file that it names.
+    /// Whether the host that was left printed this line first; refused, that line alone, with each file that the command line names as before.
+    fn is_left(&self, before: &MemHost, host: &MemHost, status: Status, line: &[u8]) -> bool {
+        let printed = host.printed();
+        let first = printed.split(|byte| *byte == b'\n').next();
+        if first != Some(line) {
+            return false;
+        }
+        let is_line = printed.strip_suffix(b"\n") == Some(line);
+        let mut names = self.words.iter();
+        let stays = names.all(|word| same_file(before, host, word));
+        status != Status::Refused || is_line && stays
+    }
+
+    /// Whether the command line ends over these bytes with this status, and leaves its host as `is_left` says.
     fn ends(&self, alloc: Global, given: &[Named], bytes: &[u8], end: End<'_>) -> Result<bool> {
         let before = self.host(alloc, given, bytes)?;
         let mut host = self.host(alloc, given, bytes)?;
         let status = helium(alloc, &self.words, &mut host);
         let line = end.line_of(alloc, bytes.len())?;
-        let printed = host.printed();
-        let first = printed.split(|byte| *byte == b'\n').next();
-        if status.code() as usize != end.status || first != Some(line.as_bytes()) {
-            return Ok(false);
-        }
-        let is_line = printed.strip_suffix(b"\n") == Some(line.as_bytes());
-        let mut names = self.words.iter();
-        let stays = names.all(|word| same_file(&before, &host, word));
-        Ok(status != Status::Refused || is_line && stays)
+        let is_left = self.is_left(&before, &host, status, line.as_bytes());
+        Ok(is_left && status.code() as usize == end.status)
     }
 
     /// Whether the command line ends so over these bytes.
