@@ -12,17 +12,11 @@ use Rattle.hm_ihex.specs.Files.{hex_in}
 use Rattle.hm_ihex.proofs.HexFiles.{hex_only}
 use Rattle.hm_work.specs.Images.{IsImageIn, IsImageOf, begins_as_hex, image_of}
 use Rattle.hm_elf.proofs.ReadLaws.{image_again}
-use Rattle.hm_handlers.proofs.Lying.{taint_lies}
-use Rattle.hm_handlers.proofs.Whole.{headline_every, riders_every}
-use Rattle.hm_handlers.specs.Runs.{shown_out}
+use Rattle.hm_run_laws.proofs.Lying.{taint_lies}
+use Rattle.hm_run_laws.proofs.Headlines.{headline_every, riders_every}
+use Rattle.hm_run_laws.specs.Runs.{shown_out}
 use Rattle.hm_host.specs.Host.{FileMap, HostState, longest}
-use Rattle.hm_plain.specs.Orders.{plain_end}
-use Rattle.hm_plain.proofs.Plain.{reports, plain_ends}
-use Rattle.hm_run.specs.declared.Outcome.{Outcome}
-use Rattle.hm_run.specs.Headline.{PlainReport}
-use Rattle.hm_run.specs.InOrder.{InOrder, Running, Faulted, in_order, in_order_report}
-use Rattle.hm_run.specs.Report.{outcome_line, report_text, memory_text}
-use Rattle.hm_run.specs.Timed.{Timed}
+use Rattle.hm_run.specs.Report.{report_text, memory_text}
 use Rattle.hm_state.specs.Start.{reset_pc}
 use Rattle.hm_commands.specs.declared.status.Status.{Status}
 use Rattle.hm_commands.specs.declared.status.Status.TheVariants.{Done, Ended, Usage, Refused, HostFault, NoMemory}
@@ -32,14 +26,14 @@ use Rattle.hm_commands.specs.Effect.{BeginsOne, Carries, Does, IsBegun}
 use Rattle.hm_sched.specs.Schedule.{Sched, plain, ticks_of}
 use Rattle.hm_sched.specs.declared.errors.SchedErr.{SchedErr}
 use Rattle.hm_sched.proofs.FileLaws.{file_again}
-use Rattle.hm_commands.specs.Headline.{IsGiven, IsReported, RunsToHeadline, IsShownInOrder, RunsInOrder, has_halted}
+use Rattle.hm_commands.specs.Headline.{IsGiven, IsReported, RunsToHeadline, IsShownInOrder, RunsInOrder}
 use Rattle.hm_work.specs.Run.{is_halted, schedule_in}
-use Rattle.hm_machine.specs.ShortReport.{is_fault, short_report}
 use Rattle.hm_soak_laws.proofs.Line.{one_listing}
 use Rattle.hm_words.specs.Words.{Form, Source, ticks, file, run, seq, form_of, reads_of}
 use Rattle.hm_words.proofs.Forms.{form_of-run, form_of-seq}
 use Rattle.hm_commands.proofs.Ending.{Does-begins, untouched_wanted}
 use Rattle.hm_work.proofs.Listed.{some_listings}
+use Rattle.hm_work.proofs.Plainly.{plainly_halted, plainly_shown}
 use Rattle.hm_work.proofs.Runs.{reset_refusal-odd}
 
 -- a file that holds an image is read as it
@@ -156,25 +150,6 @@ headline_of_none words old new status none = λ F P name memory image s h ne.
 
 -- ---- instructions in order
 
--- what a plain run shows, of a fault the first line, is what the instructions in order come to
-shown_in_order : (x : Timed) (y : InOrder) → PlainReport x y → x.outcome ≡ Some (plain_end y) → short_report x ≡ in_order_report y
-shown_in_order x (Faulted kind pc addr k) report ends = ap (λ (o : Option Outcome). if is_fault o then outcome_line o else report_text x) ends
-shown_in_order x y report ends = ap (λ (o : Option Outcome). if is_fault o then outcome_line o else report_text x) ends ∙ report
-
-halted_in_order : (x : Timed) (y : InOrder) → x.outcome ≡ Some (plain_end y) → is_halted x.outcome ≡ has_halted y
-halted_in_order x (Running s) ends = ap is_halted ends
-halted_in_order x y ends = ap is_halted ends
-
-plainly_shown : (listing : Listing) (image : List Segment) (n : ℕ)
-    → short_report (shown_out listing image (plain n)) ≡ in_order_report (in_order listing image n)
-plainly_shown listing image n =
-    shown_in_order (shown_out listing image (plain n)) (in_order listing image n) (reports listing image n) (plain_ends listing image n)
-
-plainly_halted : (listing : Listing) (image : List Segment) (n : ℕ)
-    → is_halted (shown_out listing image (plain n)).outcome ≡ has_halted (in_order listing image n)
-plainly_halted listing image n =
-    halted_in_order (shown_out listing image (plain n)) (in_order listing image n) (plain_ends listing image n)
-
 effect-seq : (listings : List Segment → Listing) (words : List (List ℕ)) (F : FileMap) (name bytes : List ℕ) (image : List Segment) (n : ℕ) (e : Effect)
     → form_of words ≡ Some (seq name n) → get F name ≡ Some bytes → length bytes ≤ longest → IsImageOf bytes image → reset_pc image % 2 ≡ 1
     → IsEffect listings words F e → e ≡ effect_for (told (shown_out (listings image) image (plain n)))
@@ -191,13 +166,11 @@ shown_by : (listing : Listing) (F : FileMap) (P : List ℕ) (image : List Segmen
 shown_by listing F P image n new status is h = record {
   printed = λ other are.
       let same = one_listing (flash_byte image) listing other is are in
-      h.printed ∙ ap (λ l. Some (P ++ short_report (shown_out l image (plain n)))) same
-      ∙ ap (λ (text : List ℕ). Some (P ++ text)) (plainly_shown other image n);
+      h.printed ∙ ap (λ (text : List ℕ). Some (P ++ text)) (plainly_shown listing other image n same);
   files = h.files;
   ends = λ other are.
       let same = one_listing (flash_byte image) listing other is are in
-      h.ends ∙ ap (λ l. if is_halted (shown_out l image (plain n)).outcome then Done else Ended) same
-      ∙ ap (λ (halted : Bool). if halted then Done else Ended) (plainly_halted other image n);
+      h.ends ∙ ap (λ (halted : Bool). if halted then Done else Ended) (plainly_halted listing other image n same);
 }
 
 pub order_of : (words : List (List ℕ)) (form : Option Form) (old new : HostState) (status : Status) → form ≡ form_of words

@@ -1,20 +1,20 @@
 -- What the top call owes to the instructions in order.
-use Rattle.std.specs.Prelude.{◌≡◌, ◌≢◌, ◌⊎◌, ℕ, ◌%◌, ◌≤◌, Bool, true, false, List, ◌++◌, length, Some, if◌then◌else◌}
+use Rattle.std.specs.Prelude.{◌≡◌, ◌≢◌, ◌⊎◌, ℕ, ◌%◌, ◌≤◌, List, ◌++◌, length, Some, if◌then◌else◌}
 use Rattle.std.specs.FinMap.{get, insert}
 use Rattle.hm_base.specs.Image.{Segment, flash_byte}
 use Rattle.hm_codes.specs.Listing.{Listing, IsListing}
 use Rattle.hm_work.specs.Images.{IsImageOf}
-use Rattle.hm_handlers.specs.Runs.{run_out, shown_out}
-use Rattle.hm_handlers.specs.Taint.{TaintLies}
+use Rattle.hm_run_laws.specs.Runs.{run_out, shown_out}
+use Rattle.hm_run_laws.specs.Taint.{TaintLies}
 use Rattle.hm_host.specs.Host.{FileMap, HostState, longest}
 use Rattle.hm_run.specs.Headline.{Headline, Riders}
-use Rattle.hm_run.specs.InOrder.{InOrder, Running, Halted, Full, Faulted, in_order, in_order_report}
+use Rattle.hm_run.specs.InOrder.{in_order, in_order_report}
 use Rattle.hm_sched.specs.Schedule.{Sched, plain}
 use Rattle.hm_sched.specs.Written.{IsFile}
 use Rattle.hm_state.specs.Start.{reset_pc}
 use Rattle.hm_commands.specs.declared.status.Status.{Status}
 use Rattle.hm_commands.specs.declared.status.Status.TheVariants.{Done, Ended, HostFault, NoMemory}
-use Rattle.hm_work.specs.Run.{is_halted}
+use Rattle.hm_work.specs.Run.{has_halted, is_halted}
 use Rattle.hm_words.specs.Words.{Source, ticks, file, IsRun, IsSeq}
 
 -- a source gives a schedule: its plain ticks, or what its file, which is there, writes
@@ -64,13 +64,6 @@ RunsToHeadline words old new status =
 pub record IsSoundSeq (words : List (List ℕ)) (old : HostState) (F : FileMap) (P name : List ℕ) (image : List Segment) (n : ℕ) : Type 0 where
   pub asked : IsSeq words name n
   pub sound : IsSoundImage old F P name image
-
--- whether instructions in order halted
-abbrev pub has_halted : InOrder → Bool
-has_halted (Running s) = false
-has_halted (Halted reason k s) = true
-has_halted (Full k s) = false
-has_halted (Faulted kind pc addr k) = false
 
 -- What n instructions in order come to was printed, of a fault the first line, and no file was touched. The status says whether they halted.
 pub record IsShownInOrder (F : FileMap) (P : List ℕ) (image : List Segment) (n : ℕ) (new : HostState) (status : Status) : Type 0 where

@@ -20,11 +20,11 @@ use Rattle.hm_exc.specs.Entry.{actor_under, newest_first, window_in}
 use Rattle.hm_exc.specs.Return.{return_rule}
 use Rattle.hm_exc.specs.declared.types.Activation.{Activation}
 use Rattle.hm_exc.specs.declared.types.Broken.{Broken}
-use Rattle.hm_handlers.proofs.Soundness.{step_sound}
-use Rattle.hm_handlers.specs.Nested.{Ended, Interrupted, NestedStep, Offends, around_under, handles, returned, step, step_under, uncounted, went, with_acts}
-use Rattle.hm_handlers.specs.Runs.{stacked_of}
-use Rattle.hm_handlers.specs.Registers.{cell_back, registers_of, restored}
-use Rattle.hm_handlers.specs.Sound.{AreStacked, IsSound, IsStacked}
+use Rattle.hm_run_laws.proofs.Soundness.{step_sound}
+use Rattle.hm_run_laws.specs.Nested.{Ended, Interrupted, NestedStep, Offends, around_under, handles, returned, step, step_under, uncounted, went, with_acts}
+use Rattle.hm_run_laws.specs.Runs.{stacked_of}
+use Rattle.hm_run_laws.specs.Registers.{cell_back, registers_of, restored}
+use Rattle.hm_run_laws.specs.Sound.{AreStacked, IsSound, IsStacked}
 use Rattle.hm_isa.specs.declared.Instr.{Instr}
 use Rattle.hm_isa.specs.declared.Instr.TheVariants as instr
 use Rattle.hm_isa.specs.declared.Vector.{Vector}

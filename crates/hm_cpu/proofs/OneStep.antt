@@ -1,7 +1,7 @@
 -- One step is a run of one step.
 use Rattle.std.proofs.Common.{◌≡◌, arith}
 use Rattle.hm_codes.specs.Listing.{Listing}
-use Rattle.hm_handlers.specs.Nested.{Nested, NestedStep, step, steps}
+use Rattle.hm_run_laws.specs.Nested.{Nested, NestedStep, step, steps}
 use Rattle.hm_order.specs.Beats.{then}
 use Rattle.hm_order.specs.InFlight.{Older}
 use Rattle.hm_sched.specs.Schedule.{Sched}

@@ -19,8 +19,8 @@ use Rattle.hm_mem.specs.Memory.{Around, Memory, memory_of}
 use Rattle.hm_order.specs.Beats.{then}
 use Rattle.hm_order.specs.Machine as order
 use Rattle.hm_order.specs.Machine.{Config, begin, begun, done, older, settle}
-use Rattle.hm_in_order.proofs.Laws.{caused_ok}
-use Rattle.hm_in_order.proofs.Vectors.{beat_pc}
+use Rattle.hm_run_laws.proofs.Laws.{caused_ok}
+use Rattle.hm_run_laws.proofs.Vectors.{beat_pc}
 use Rattle.hm_regs.specs.Place.{Counted, InRange}
 use Rattle.hm_regs.specs.declared.Regs.{Regs}
 use Rattle.hm_rows.proofs.Context.{context_is, context_there}

@@ -20,7 +20,7 @@ use Rattle.hm_mem.specs.Memory.{Around, Memory}
 use Rattle.hm_mem.specs.Seen.{IsSameElsewhere}
 use Rattle.hm_order.specs.Beats.{then}
 use Rattle.hm_order.specs.Machine.{Config, did, done, older_of, settle, younger, younger_of}
-use Rattle.hm_in_order.proofs.Laws.{caused_ok}
+use Rattle.hm_run_laws.proofs.Laws.{caused_ok}
 use Rattle.hm_regs.specs.declared.Regs.{Regs}
 use Rattle.hm_rows.specs.Rows.{vector_tree}
 use Rattle.hm_run.proofs.Steps.{older_vector}

@@ -10,9 +10,9 @@ use Rattle.hm_cpu.specs.declared.step_ends.LetterEnd.TheVariants as letter_end
 use Rattle.hm_exc.specs.Entry.{newest_first, window_in}
 use Rattle.hm_exc.specs.Return.{return_rule}
 use Rattle.hm_exc.specs.declared.types.Activation.{Activation}
-use Rattle.hm_handlers.specs.Nested.{Ended, Interrupted, Nested, NestedEnd, NestedStep, Offends, around_under, returned}
-use Rattle.hm_handlers.specs.Registers.{registers_of}
-use Rattle.hm_handlers.specs.Sound.{AreStacked, IsSound}
+use Rattle.hm_run_laws.specs.Nested.{Ended, Interrupted, Nested, NestedEnd, NestedStep, Offends, around_under, returned}
+use Rattle.hm_run_laws.specs.Registers.{registers_of}
+use Rattle.hm_run_laws.specs.Sound.{AreStacked, IsSound}
 use Rattle.hm_mem.specs.Memory.{Around, memory_of}
 use Rattle.hm_mem.specs.Seen.{IsSameElsewhere}
 use Rattle.hm_mem.specs.declared.Actor.TheVariants.{Thread}

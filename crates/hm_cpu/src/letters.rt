@@ -4,7 +4,7 @@ ghost use Rattle.std.specs.Prelude.{◌≡◌, ◌+◌, ◌^◌, ◌<◌, ◌≤
 ghost use Rattle.std.specs.Vec.{vec_capacity};
 ghost use Rattle.hm_codes.specs.Listing.{IsListing, Listing};
 ghost use Rattle.hm_cpu.specs.Cpus.{nested_of, stepped, IsPosition, IsSoundUnder, IsSoundUnderSome, KeepsFlash};
-ghost use Rattle.hm_handlers.specs.Nested.{letter};
+ghost use Rattle.hm_run_laws.specs.Nested.{letter};
 ghost use Rattle.hm_mem.specs.Memory.{memory_of, flash_at};
 ghost use Rattle.hm_run.specs.Program.{most_output};
 ghost use Rattle.hm_sched.specs.Schedule.{Sched};

@@ -12,7 +12,7 @@ ghost use Rattle.hm_recent.specs.Decodings.{instr_of};
 ghost use Rattle.hm_exc.specs.Entry.{newest_first};
 ghost use Rattle.hm_exc.specs.declared.types.Activation.{Activation};
 ghost use Rattle.hm_exec.specs.Families.{row_of};
-ghost use Rattle.hm_handlers.specs.Nested.{flows, letter, step, to_end};
+ghost use Rattle.hm_run_laws.specs.Nested.{flows, letter, step, to_end};
 ghost use Rattle.hm_mem.specs.Memory.{memory_of, flash_at};
 ghost use Rattle.hm_order.specs.InFlight.{Older, Younger};
 ghost use Rattle.hm_run.specs.Program.{most_output};

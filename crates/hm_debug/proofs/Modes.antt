@@ -10,12 +10,12 @@ use Rattle.hm_exc.specs.Entry.{entry_refusal}
 use Rattle.hm_exc.specs.Return.{return_rule}
 use Rattle.hm_exc.specs.declared.types.Broken.{Broken as Breach}
 use Rattle.hm_exc.specs.declared.types.EnterErr.{EnterErr}
-use Rattle.hm_handlers.proofs.Leaving.{Leaves, scalar_leaves}
-use Rattle.hm_handlers.proofs.Soundness.{counted_sound, letters_sound, next_sound, run_sound, start_sound, step_sound}
-use Rattle.hm_handlers.specs.Nested.{Ended, Interrupted, Nested, NestedEnd, NestedStep, Offends, TickEnd, around_under, at_step, flows, handler_step, handles}
-use Rattle.hm_handlers.specs.Nested.{letter, letters, program_under, returned, step, step_under, steps, uncounted, went, with_acts}
-use Rattle.hm_handlers.specs.Runs.{Pointers, Run, after_count, begin, closed, ended, enters, enters_unless, may_enter, next, picks, run, stops, tick_of}
-use Rattle.hm_handlers.specs.Sound.{AreStacked, IsSound, number_under}
+use Rattle.hm_run_laws.proofs.Leaving.{Leaves, scalar_leaves}
+use Rattle.hm_run_laws.proofs.Soundness.{counted_sound, letters_sound, next_sound, run_sound, start_sound, step_sound}
+use Rattle.hm_run_laws.specs.Nested.{Ended, Interrupted, Nested, NestedEnd, NestedStep, Offends, TickEnd, around_under, at_step, flows, handler_step, handles}
+use Rattle.hm_run_laws.specs.Nested.{letter, letters, program_under, returned, step, step_under, steps, uncounted, went, with_acts}
+use Rattle.hm_run_laws.specs.Runs.{Pointers, Run, after_count, begin, closed, ended, enters, enters_unless, may_enter, next, picks, run, stops, tick_of}
+use Rattle.hm_run_laws.specs.Sound.{AreStacked, IsSound, number_under}
 use Rattle.hm_isa.specs.declared.Flow.{Flow}
 use Rattle.hm_isa.specs.declared.Flow.TheVariants as flow
 use Rattle.hm_isa.specs.declared.Instr.{Instr}

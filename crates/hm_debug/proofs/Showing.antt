@@ -2,7 +2,7 @@
 use Rattle.std.proofs.Common.{◌≡◌, ℕ, ap, sym, ◌∙◌, subst}
 use Rattle.hm_codes.specs.Listing.{IsListing}
 use Rattle.hm_debug.specs.Films.{Film, IsFilm, ShowsTick}
-use Rattle.hm_handlers.specs.Runs.{run}
+use Rattle.hm_run_laws.specs.Runs.{run}
 use Rattle.hm_machine.proofs.Ticks.{timed_is}
 use Rattle.hm_machine.specs.Shown.{Shown, timed_of}
 use Rattle.hm_machine.specs.Taped.{Taped}

@@ -9,7 +9,7 @@ ghost use Rattle.hm_debug.specs.Lines.{listing_lines};
 ghost use Rattle.hm_debug.specs.Scripts.{IsScript, ScriptRefuses};
 ghost use Rattle.hm_debug.specs.declared.command.Command.{Command};
 ghost use Rattle.hm_debug.specs.declared.errors.ScriptErr.{ScriptErr};
-ghost use Rattle.hm_handlers.specs.Runs.{run};
+ghost use Rattle.hm_run_laws.specs.Runs.{run};
 ghost use Rattle.hm_listing.specs.Listings.{AreEntries, Entry, lines_from};
 ghost use Rattle.hm_sched.specs.Schedule.{Sched};
 

@@ -4,7 +4,7 @@ use Rattle.std.proofs.lemmas.List.{length_push}
 use Rattle.std.proofs.Math.Nat.{div-lt_iff_lt-mul, div-mul-le_self, lt-div-mul-add, mul-le-mul}
 use Rattle.hm_base.specs.Image.{Segment}
 use Rattle.hm_codes.specs.Listing.{Listing}
-use Rattle.hm_handlers.specs.Runs.{run_out}
+use Rattle.hm_run_laws.specs.Runs.{run_out}
 use Rattle.hm_machine.proofs.Reels.{one_more_tick, pushed}
 use Rattle.hm_sched.specs.Schedule.{Sched, most_ticks, ticks_of}
 use Rattle.hm_journal.proofs.RunTicks.{few_ticks}

@@ -3,7 +3,7 @@ use Rattle.std.proofs.Common.{◌≡◌, ℕ, zero, suc, ◌<◌, arith, ap, ref
 use Rattle.std.proofs.lemmas.Bool.{cases_eq, cases_lt}
 use Rattle.hm_base.specs.Image.{Segment}
 use Rattle.hm_codes.specs.Listing.{Listing}
-use Rattle.hm_handlers.specs.Runs.{run_out}
+use Rattle.hm_run_laws.specs.Runs.{run_out}
 use Rattle.hm_sched.specs.Schedule.{Sched}
 use Rattle.hm_journal.proofs.Deciding.{same_or}
 use Rattle.hm_journal.specs.Formats.{report_in}

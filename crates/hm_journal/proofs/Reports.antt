@@ -2,7 +2,7 @@
 use Rattle.std.proofs.Common.{◌≡◌, ◌↔◌, ◌≤◌, ℕ, Bool, IsTrue, ap, sym, ◌∙◌, List, string_bytes}
 use Rattle.hm_base.specs.Image.{Segment, flash_byte}
 use Rattle.hm_codes.specs.Listing.{Listing, IsListing}
-use Rattle.hm_handlers.specs.Runs.{run, run_out}
+use Rattle.hm_run_laws.specs.Runs.{run, run_out}
 use Rattle.hm_machine.proofs.Ticks.{timed_is}
 use Rattle.hm_machine.specs.Shown.{Shown, Shows, timed_of}
 use Rattle.hm_run.specs.Report.{report_text}

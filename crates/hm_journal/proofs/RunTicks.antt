@@ -2,9 +2,9 @@
 use Rattle.std.proofs.Common.{ℕ, zero, suc, ◌+◌, ◌≤◌, arith, List, [], ◌∷◌, drop, length, Option, Some, None}
 use Rattle.hm_base.specs.Image.{Segment}
 use Rattle.hm_codes.specs.Listing.{Listing}
-use Rattle.hm_handlers.proofs.TickCounts.{closed_ticks, ended_ticks}
-use Rattle.hm_handlers.specs.Nested.{letters}
-use Rattle.hm_handlers.specs.Runs.{Run, begin, next, run, run_out, tick_of}
+use Rattle.hm_run_laws.proofs.TickCounts.{closed_ticks, ended_ticks}
+use Rattle.hm_run_laws.specs.Nested.{letters}
+use Rattle.hm_run_laws.specs.Runs.{Run, begin, next, run, run_out, tick_of}
 use Rattle.hm_run.specs.declared.Outcome.{Outcome}
 use Rattle.hm_sched.specs.Schedule.{Sched, TickLine, ticks_of}
 

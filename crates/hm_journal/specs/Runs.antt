@@ -2,7 +2,7 @@
 use Rattle.std.specs.Prelude.{◌≡◌, ℕ, zero, suc, ◌+◌, ◌*◌, ◌/◌, ◌<◌, ◌≤◌, List, [], ◌∷◌, ◌++◌, length, slice_get, Result, Ok, Err, Some}
 use Rattle.hm_base.specs.Image.{Segment}
 use Rattle.hm_codes.specs.Listing.{Listing}
-use Rattle.hm_handlers.specs.Runs.{run, run_out, shown}
+use Rattle.hm_run_laws.specs.Runs.{run, run_out, shown}
 use Rattle.hm_run.specs.Report.{report_text, system_line}
 use Rattle.hm_run.specs.Timed.{Timed}
 use Rattle.hm_sched.specs.Schedule.{Sched, ticks_of}

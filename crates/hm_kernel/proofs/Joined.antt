@@ -2,8 +2,8 @@
 use Rattle.std.proofs.Common.{◌≡◌, ℕ, ◌<◌, ◌^◌, List, Some, length, refl, subst, sym, ◌∙◌, arith}
 use Rattle.hm_base.specs.Image.{Segment, flash_byte}
 use Rattle.hm_codes.specs.Listing.{IsListing, Listing}
-use Rattle.hm_handlers.proofs.Whole.{headline_every}
-use Rattle.hm_handlers.specs.Runs.{shown_out}
+use Rattle.hm_run_laws.proofs.Headlines.{headline_every}
+use Rattle.hm_run_laws.specs.Runs.{shown_out}
 use Rattle.hm_kernel.specs.Compiled.{Compiles, IsCompiled, Takes}
 use Rattle.hm_kernel.proofs.Meaning.{one_meaning}
 use Rattle.hm_kernel.proofs.One.{one_number}
@@ -13,8 +13,8 @@ use Rattle.hm_kernel_code.proofs.Whole.{few_segments, first_word_is, is_image, i
 use Rattle.hm_kernel_lang.specs.declared.text.Text.{Text}
 use Rattle.hm_kernel_lang.specs.Language.{meaning, steps}
 use Rattle.hm_kernel_lang.specs.Texts.{IsText}
-use Rattle.hm_kernel_rows.proofs.Theorem.{computes, file_of}
-use Rattle.hm_kernel_rows.specs.Theorem.{IsFileOf}
+use Rattle.hm_kernel.proofs.Theorem.{computes, file_of}
+use Rattle.hm_kernel.specs.Theorem.{IsFileOf}
 use Rattle.hm_kernel_text.proofs.Exists.{text_exists}
 use Rattle.hm_kernel_text.specs.Written.{IsKernel, Written}
 use Rattle.hm_run.specs.declared.Outcome.TheVariants.{Halted}

@@ -1,3 +1,15 @@
+pub mod Scalars
+pub mod CoreSteps
+pub mod LoopSteps
+pub mod Merging
+pub mod Vectors
+pub mod Operations
+pub mod Moves
+pub mod Stores
+pub mod Theorem
+pub mod Bests
+pub mod Bitwise
+pub mod AllOperations
 pub mod Joined
 pub mod Meaning
 pub mod One

@@ -6,7 +6,7 @@ use Rattle.hm_kernel_code.specs.Images.{IsImageOf}
 use Rattle.hm_kernel_lang.specs.declared.text.Text.{Text}
 use Rattle.hm_kernel_lang.specs.Language.{steps}
 use Rattle.hm_kernel_lang.specs.Texts.{IsText}
-use Rattle.hm_kernel_rows.specs.Theorem.{Computes}
+use Rattle.hm_kernel.specs.Theorem.{Computes}
 use Rattle.hm_kernel_text.specs.Held.{written}
 use Rattle.hm_kernel_text.specs.Written.{IsKernel}
 

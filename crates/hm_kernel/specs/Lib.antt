@@ -1,1 +1,4 @@
+pub mod Shows
+pub mod Standing
+pub mod Theorem
 pub mod Compiled

@@ -1,14 +1,15 @@
-//! The compiler of the array language: from the bytes of a text to its image, and to the number of its steps.
+//! The compiler of the array language: from the bytes of a text to its image, and to the number of its steps; and that the code does what the text
+//! means.
 #![tactic(auto)]
 
 ghost use Rattle.std.specs.Prelude.{◌≡◌, ◌<◌, ◌^◌, ℕ, List, Some, length, IfOk, IfErr};
 ghost use Rattle.hm_base.specs.Image.{Segment, flash_byte};
 ghost use Rattle.hm_codes.specs.Listing.{IsListing, Listing};
-ghost use Rattle.hm_handlers.specs.Runs.{shown_out};
+ghost use Rattle.hm_run_laws.specs.Runs.{shown_out};
 ghost use Rattle.hm_kernel.specs.Compiled.{Compiles, IsCompiled, Takes};
 ghost use Rattle.hm_kernel_lang.specs.declared.text.Text.{Text};
 ghost use Rattle.hm_kernel_lang.specs.Language.{meaning, steps};
-ghost use Rattle.hm_kernel_rows.specs.Theorem.{IsFileOf};
+ghost use Rattle.hm_kernel.specs.Theorem.{IsFileOf};
 ghost use Rattle.hm_kernel_text.specs.ReadFile.{Fails, kernel_in};
 ghost use Rattle.hm_kernel_text.specs.Written.{IsKernel, Written};
 ghost use Rattle.hm_run.specs.declared.Reason.{Reason};
@@ -16,10 +17,13 @@ ghost use Rattle.hm_run.specs.declared.Outcome.TheVariants.{Halted};
 ghost use Rattle.hm_run.specs.Report.{memory_text};
 ghost use Rattle.hm_sched.specs.Schedule.{Sched};
 
+mod rows;
+
 use hm_base::Image;
 use hm_kernel_code::{image_of, steps_of};
 use hm_kernel_text::read_kernel;
 pub use hm_kernel_text::{KernelErr, KernelKind};
+pub use rows::kernel_law;
 use std::alloc::Global;
 
 /// The image of the text that the bytes say: in flash its code from 8 on, in SRAM the values of its arrays.

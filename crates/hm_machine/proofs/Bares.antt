@@ -9,12 +9,12 @@ use Rattle.hm_codes.specs.Listing.{Listing, IsListing}
 use Rattle.hm_cpu.specs.Cpus.{interrupted_of, nested_of, IsSoundUnder}
 use Rattle.hm_cpu.specs.declared.cpu.Cpu.{Cpu}
 use Rattle.hm_exc.specs.declared.types.Activation.{Activation}
-use Rattle.hm_handlers.proofs.Quiet.{tick_still}
-use Rattle.hm_handlers.proofs.Soundness.{start_sound}
-use Rattle.hm_handlers.specs.Nested.{Nested, around_under}
-use Rattle.hm_handlers.specs.Runs.{Run, begin, tick, tick_of}
-use Rattle.hm_handlers.specs.Sound.{IsSound}
-use Rattle.hm_handlers.proofs.Ends.{all_ended, run_past}
+use Rattle.hm_run_laws.proofs.Quiet.{tick_still}
+use Rattle.hm_run_laws.proofs.Soundness.{start_sound}
+use Rattle.hm_run_laws.specs.Nested.{Nested, around_under}
+use Rattle.hm_run_laws.specs.Runs.{Run, begin, tick, tick_of}
+use Rattle.hm_run_laws.specs.Sound.{IsSound}
+use Rattle.hm_run_laws.proofs.Ends.{all_ended, run_past}
 use Rattle.hm_machine.specs.Bares.{IsBare, ShowsGiven}
 use Rattle.hm_machine.specs.Machines.{GoesOn, StandsIn, left_at, left_in}
 use Rattle.hm_machine.specs.declared.cursor.Cursor.{Cursor}
@@ -23,7 +23,7 @@ use Rattle.hm_mem.specs.Memory.{flash_at, memory_of, thread_under}
 use Rattle.hm_run.specs.Bare.{bare}
 use Rattle.hm_state.specs.Start.{first_bounds}
 use Rattle.hm_state.specs.State.{state_of}
-use Rattle.hm_position.specs.Next.{after_ticks}
+use Rattle.hm_run_laws.specs.Next.{after_ticks}
 use Rattle.hm_run.specs.declared.Outcome.{Outcome}
 use Rattle.hm_sched.specs.Schedule.{TickLine, Sched, ticks_of}
 

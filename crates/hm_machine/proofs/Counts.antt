@@ -6,10 +6,10 @@ use Rattle.std.specs.Prelude.{IsSome}
 use Rattle.hm_base.specs.Image.{Segment, flash_byte}
 use Rattle.hm_codes.proofs.Exists.{exists}
 use Rattle.hm_codes.specs.Listing.{Listing}
-use Rattle.hm_handlers.proofs.TickCounts.{closed_ticks, ended_ticks}
-use Rattle.hm_handlers.specs.Nested.{letters}
-use Rattle.hm_handlers.specs.Runs.{Run, begin, next, run, tick_of}
-use Rattle.hm_handlers.proofs.Ends.{all_ended, next_ended, run_past}
+use Rattle.hm_run_laws.proofs.TickCounts.{closed_ticks, ended_ticks}
+use Rattle.hm_run_laws.specs.Nested.{letters}
+use Rattle.hm_run_laws.specs.Runs.{Run, begin, next, run, tick_of}
+use Rattle.hm_run_laws.proofs.Ends.{all_ended, next_ended, run_past}
 use Rattle.hm_machine.specs.Shown.{Shown, Shows}
 use Rattle.hm_run.specs.declared.Outcome.{Outcome}
 use Rattle.hm_sched.specs.Schedule.{TickLine, Sched, ticks_of}

@@ -8,10 +8,10 @@ use Rattle.hm_cpu.specs.declared.cpu.Cpu.{Cpu}
 use Rattle.hm_exc.specs.Entry.{Passes, activation, entered_memory, entered_registers, main_after, newest_first, vector_of, window_in}
 use Rattle.hm_exc.specs.declared.types.Activation.{Activation}
 use Rattle.hm_exc.specs.declared.types.EnterErr.{EnterErr}
-use Rattle.hm_handlers.specs.Entries.{entered, least_active, refused}
-use Rattle.hm_handlers.specs.Nested.{Ended, Interrupted, Nested}
-use Rattle.hm_handlers.specs.Runs.{Pointers, Run, after_count, enters, enters_unless, may_enter, picks, pointers_of, stopped_under, stops, tick_end, stacked_of}
-use Rattle.hm_handlers.specs.Sound.{AreUrgent}
+use Rattle.hm_run_laws.specs.Entries.{entered, least_active, refused}
+use Rattle.hm_run_laws.specs.Nested.{Ended, Interrupted, Nested}
+use Rattle.hm_run_laws.specs.Runs.{Pointers, Run, after_count, enters, enters_unless, may_enter, picks, pointers_of, stopped_under, stops, tick_end, stacked_of}
+use Rattle.hm_run_laws.specs.Sound.{AreUrgent}
 use Rattle.hm_machine.specs.Ticked.{Came}
 use Rattle.hm_machine.specs.Shown.{run_with}
 use Rattle.hm_mem.specs.Memory.{Around, Memory, memory_of, thread_under}

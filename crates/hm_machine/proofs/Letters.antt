@@ -2,7 +2,7 @@
 use Rattle.std.proofs.Common.{◌≡◌, ℕ, ◌+◌, ◌<◌, ap, sym, ◌∙◌, List, drop, length, slice_index, nat_eq, Result, Ok, Err}
 use Rattle.std.proofs.lemmas.List.{drop_more}
 use Rattle.hm_codes.specs.Listing.{Listing}
-use Rattle.hm_handlers.specs.Nested.{Nested, TickEnd, at_step, letter, letters}
+use Rattle.hm_run_laws.specs.Nested.{Nested, TickEnd, at_step, letter, letters}
 use Rattle.hm_order.specs.Beats.{then}
 use Rattle.hm_sched.specs.Schedule.{Sched, younger_letter}
 

@@ -14,12 +14,12 @@ use Rattle.hm_regs.specs.Start.{start_regs}
 use Rattle.hm_run.specs.declared.Outcome.{Outcome}
 use Rattle.hm_run.specs.declared.Outcome.TheVariants as outcome
 use Rattle.hm_exc.specs.declared.types.Activation.{Activation}
-use Rattle.hm_handlers.proofs.Soundness.{start_sound}
-use Rattle.hm_handlers.specs.Runs.{Run, begin, closed, run}
-use Rattle.hm_handlers.specs.Sound.{IsSound}
-use Rattle.hm_handlers.proofs.TickCounts.{closed_entries}
+use Rattle.hm_run_laws.proofs.Soundness.{start_sound}
+use Rattle.hm_run_laws.specs.Runs.{Run, begin, closed, run}
+use Rattle.hm_run_laws.specs.Sound.{IsSound}
+use Rattle.hm_run_laws.proofs.TickCounts.{closed_entries}
 use Rattle.hm_machine.proofs.Runs.{Comes}
-use Rattle.hm_handlers.proofs.Ends.{closed_out}
+use Rattle.hm_run_laws.proofs.Ends.{closed_out}
 use Rattle.hm_sched.specs.Schedule.{TickLine, Sched, IsLine, most_ticks, ticks_of}
 use Rattle.hm_state.proofs.Started.{started}
 use Rattle.hm_state.specs.Start.{reset_pc, reset_sp, start_under}

@@ -3,16 +3,16 @@ use Rattle.std.proofs.Common.{◌≡◌, ℕ, List, length, refl, sym, subst}
 use Rattle.hm_base.specs.Image.{Segment, flash_byte}
 use Rattle.hm_codes.specs.Listing.{Listing, IsListing}
 use Rattle.hm_machine.specs.Shown.{Shown, Shows, run_of, timed_of}
-use Rattle.hm_handlers.proofs.Whole.{headline_every, riders_every}
-use Rattle.hm_handlers.proofs.Lying.{taint_lies}
-use Rattle.hm_handlers.proofs.Order.{keeps_order}
-use Rattle.hm_handlers.specs.Order.{KeepsOrder}
-use Rattle.hm_handlers.specs.Runs.{run, run_out, shown}
-use Rattle.hm_handlers.specs.Taint.{TaintLies}
+use Rattle.hm_run_laws.proofs.Headlines.{headline_every, riders_every}
+use Rattle.hm_run_laws.proofs.Lying.{taint_lies}
+use Rattle.hm_run_laws.proofs.Order.{keeps_order}
+use Rattle.hm_run_laws.specs.Order.{KeepsOrder}
+use Rattle.hm_run_laws.specs.Runs.{run, run_out, shown}
+use Rattle.hm_run_laws.specs.Taint.{TaintLies}
 use Rattle.hm_machine.proofs.Ticks.{timed_is}
-use Rattle.hm_plain.proofs.Plain.{reports}
-use Rattle.hm_position.proofs.Standing.{stands_in_order}
-use Rattle.hm_position.specs.Position.{StandsInOrder}
+use Rattle.hm_run_laws.proofs.Plain.{reports}
+use Rattle.hm_run_laws.proofs.Standing.{stands_in_order}
+use Rattle.hm_run_laws.specs.Position.{StandsInOrder}
 use Rattle.hm_run.specs.Headline.{Headline, PlainReport, Riders}
 use Rattle.hm_run.specs.InOrder.{in_order}
 use Rattle.hm_run.specs.Report.{report_text, memory_text}

@@ -9,15 +9,15 @@ use Rattle.std.proofs.lemmas.List.{length-append, take-append-le}
 use Rattle.std.proofs.lemmas.Option.{slice_get-get_or}
 use Rattle.hm_base.specs.Image.{Segment, flash_byte}
 use Rattle.hm_codes.proofs.Exists.{exists}
-use Rattle.hm_handlers.specs.Runs.{Run}
+use Rattle.hm_run_laws.specs.Runs.{Run}
 use Rattle.hm_machine.proofs.Counts.{shows_more}
 use Rattle.hm_machine.proofs.Ticks.{shows_past}
 use Rattle.hm_machine.specs.Checkpoints.{IsKept, at_checkpoint}
 use Rattle.hm_machine.specs.Shown.{Fixed, Shown, Shows, fixed_of}
 use Rattle.hm_machine.specs.Tapes.{AreApart, AreKept, ShowsTick, first_of, machine_at}
 use Rattle.hm_machine.specs.declared.checkpoint.Checkpoint.{Checkpoint}
-use Rattle.hm_position.proofs.Outputs.{begins_same, output_grows}
-use Rattle.hm_position.specs.Next.{Begins}
+use Rattle.hm_run_laws.proofs.Outputs.{begins_same, output_grows}
+use Rattle.hm_run_laws.specs.Next.{Begins}
 use Rattle.hm_sched.specs.Schedule.{Sched, ticks_of}
 use Rattle.hm_state.specs.State.{state_of}
 

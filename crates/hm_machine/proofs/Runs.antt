@@ -1,14 +1,14 @@
 -- What a tick came to, of a run.
 use Rattle.std.proofs.Common.{◌≡◌, ℕ, ◌+◌, ◌<◌, arith, ap, sym, ◌∙◌, subst, List, [], ◌∷◌, length, Bool, Option, Some, None, Result, Err}
 use Rattle.hm_codes.specs.Listing.{Listing}
-use Rattle.hm_handlers.specs.Nested.{Nested}
-use Rattle.hm_handlers.proofs.Soundness.{next_sound}
-use Rattle.hm_handlers.proofs.TickCounts.{closed_entries}
-use Rattle.hm_handlers.specs.Sound.{IsSound}
-use Rattle.hm_handlers.specs.Runs.{Pointers, Run, closed, next, tick_of}
+use Rattle.hm_run_laws.specs.Nested.{Nested}
+use Rattle.hm_run_laws.proofs.Soundness.{next_sound}
+use Rattle.hm_run_laws.proofs.TickCounts.{closed_entries}
+use Rattle.hm_run_laws.specs.Sound.{IsSound}
+use Rattle.hm_run_laws.specs.Runs.{Pointers, Run, closed, next, tick_of}
 use Rattle.hm_machine.specs.Ticked.{entered_in, Came}
 use Rattle.hm_machine.specs.Shown.{run_with}
-use Rattle.hm_handlers.proofs.Ends.{closed_ended, closed_on, closed_out}
+use Rattle.hm_run_laws.proofs.Ends.{closed_ended, closed_on, closed_out}
 use Rattle.hm_run.specs.declared.Outcome.{Outcome}
 use Rattle.hm_run.specs.declared.Outcome.TheVariants as outcome
 use Rattle.hm_sched.specs.Schedule.{TickLine, Sched}

@@ -5,11 +5,11 @@ use Rattle.std.proofs.lemmas.Bool.{ltb-true}
 use Rattle.std.proofs.lemmas.List.{get_or_default}
 use Rattle.hm_base.specs.Image.{Segment, first_byte, flash_byte, flash_size, given}
 use Rattle.hm_codes.proofs.Exists.{exists}
-use Rattle.hm_handlers.proofs.Soundness.{start_sound}
-use Rattle.hm_handlers.proofs.TickCounts.{closed_entries, closed_machine, closed_ticks}
-use Rattle.hm_handlers.specs.Nested.{Nested}
-use Rattle.hm_handlers.specs.Runs.{Run, begin, run}
-use Rattle.hm_handlers.specs.Sound.{IsSound}
+use Rattle.hm_run_laws.proofs.Soundness.{start_sound}
+use Rattle.hm_run_laws.proofs.TickCounts.{closed_entries, closed_machine, closed_ticks}
+use Rattle.hm_run_laws.specs.Nested.{Nested}
+use Rattle.hm_run_laws.specs.Runs.{Run, begin, run}
+use Rattle.hm_run_laws.specs.Sound.{IsSound}
 use Rattle.hm_machine.proofs.Loads.{begun, first_left}
 use Rattle.hm_machine.specs.Checkpoints.{IsKept, at_checkpoint}
 use Rattle.hm_machine.specs.Machines.{left_in, left_while}

@@ -4,8 +4,8 @@ use Rattle.std.proofs.Common.{length, Ok, Err, Some, None, add-one, add-zero, ad
 use Rattle.hm_base.specs.Image.{Segment, flash_byte}
 use Rattle.hm_codes.proofs.Exists.{exists}
 use Rattle.hm_codes.specs.Listing.{Listing, IsListing}
-use Rattle.hm_handlers.specs.Runs.{Pointers, Run, next, run, shown}
-use Rattle.hm_handlers.proofs.Ends.{all_ended, next_ended, run_past}
+use Rattle.hm_run_laws.specs.Runs.{Pointers, Run, next, run, shown}
+use Rattle.hm_run_laws.proofs.Ends.{all_ended, next_ended, run_past}
 use Rattle.std.specs.Prelude.{IsSome}
 use Rattle.hm_machine.specs.Machines.{left_in, HasTick}
 use Rattle.hm_machine.specs.Shown.{Shown, Shows, run_of, timed_of}

@@ -3,10 +3,10 @@ use Rattle.std.specs.Prelude.{◌≡◌, ◌&&◌, Bool, List, []}
 use Rattle.std.specs.Option.{is_none}
 use Rattle.hm_base.specs.Image.{Segment, flash_byte}
 use Rattle.hm_codes.specs.Listing.{Listing, IsListing}
-use Rattle.hm_handlers.specs.Runs.{Run, begin}
+use Rattle.hm_run_laws.specs.Runs.{Run, begin}
 use Rattle.hm_machine.specs.Shown.{Shown, run_of}
 use Rattle.hm_mem.specs.Memory.{flash_at}
-use Rattle.hm_position.specs.Next.{after_ticks}
+use Rattle.hm_run_laws.specs.Next.{after_ticks}
 use Rattle.hm_run.specs.Bare.{bare}
 use Rattle.hm_run.specs.Program.{Program}
 use Rattle.hm_run.specs.Ready.{is_ready}

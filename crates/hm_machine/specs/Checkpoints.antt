@@ -1,7 +1,7 @@
 -- CHECKPOINTS: what a machine shows once it is put back to one.
 use Rattle.std.specs.Prelude.{◌≡◌, ℕ, ◌+◌, ◌*◌, ◌<◌, ◌≤◌, IsTrue, List, [], length, None}
 use Rattle.hm_exc.specs.Entry.{newest_first}
-use Rattle.hm_handlers.specs.Sound.{IsSound}
+use Rattle.hm_run_laws.specs.Sound.{IsSound}
 use Rattle.hm_machine.specs.Machines.{GoesOn, left_at, left_while}
 use Rattle.hm_machine.specs.Shown.{Fixed, Shown, run_of}
 use Rattle.hm_machine.specs.declared.checkpoint.Checkpoint.{Checkpoint}

@@ -2,9 +2,9 @@
 use Rattle.std.specs.Prelude.{Bool, ◌≡◌, ℕ, ◌+◌, if◌then◌else◌, List, length, Option, Some, None, Result, Ok, Err}
 use Rattle.hm_cpu.specs.Cpus.{letter_ended, nested_of}
 use Rattle.hm_cpu.specs.declared.cpu.Cpu.{Cpu}
-use Rattle.hm_handlers.specs.Entries.{mask_of, running_priority}
-use Rattle.hm_handlers.specs.Nested.{Nested, TickEnd}
-use Rattle.hm_handlers.specs.Runs.{Pointers, Run}
+use Rattle.hm_run_laws.specs.Entries.{mask_of, running_priority}
+use Rattle.hm_run_laws.specs.Nested.{Nested, TickEnd}
+use Rattle.hm_run_laws.specs.Runs.{Pointers, Run}
 use Rattle.hm_machine.specs.Shown.{run_with}
 use Rattle.hm_machine.specs.declared.conclusion.EarlyEnd.{EarlyEnd}
 use Rattle.hm_mem.specs.Memory.{memory_of}

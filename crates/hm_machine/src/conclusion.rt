@@ -2,8 +2,8 @@
 
 ghost use Rattle.std.specs.Prelude.{◌≡◌, ℕ, ◌+◌, ◌%◌, ◌^◌, ◌<◌, if◌then◌else◌, List, map, Some};
 ghost use Rattle.hm_cpu.specs.Cpus.{config_of, nested_of, step_ended, CountsOne};
-ghost use Rattle.hm_handlers.specs.Nested.{Ended};
-ghost use Rattle.hm_handlers.specs.Runs.{Pointers, stopped_under, stops, stacked_of};
+ghost use Rattle.hm_run_laws.specs.Nested.{Ended};
+ghost use Rattle.hm_run_laws.specs.Runs.{Pointers, stopped_under, stops, stacked_of};
 ghost use Rattle.hm_machine.specs.Ticked.{early_ended, Stays};
 ghost use Rattle.hm_machine.specs.Shown.{run_with};
 ghost use Rattle.hm_order.specs.Machine.{Config, Stopped};

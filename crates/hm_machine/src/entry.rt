@@ -2,8 +2,8 @@
 
 ghost use Rattle.std.specs.Prelude.{◌≡◌, ◌<◌, true, List, None, Some, OnOk};
 ghost use Rattle.hm_cpu.specs.Cpus.{config_of, nested_of, CountsNone, IsPosition, IsSoundUnder, IsSoundUnderSome, KeepsFlash};
-ghost use Rattle.hm_handlers.specs.Entries.{least_active, mask_of, refused, running_priority};
-ghost use Rattle.hm_handlers.specs.Runs.{Pointers, enters, picks as picks_of};
+ghost use Rattle.hm_run_laws.specs.Entries.{least_active, mask_of, refused, running_priority};
+ghost use Rattle.hm_run_laws.specs.Runs.{Pointers, enters, picks as picks_of};
 ghost use Rattle.hm_machine.specs.Ticked.{picks, Came};
 ghost use Rattle.hm_machine.specs.Shown.{run_with};
 ghost use Rattle.hm_mem.specs.Memory.{memory_of};

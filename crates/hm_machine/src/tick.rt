@@ -6,8 +6,8 @@ ghost use Rattle.std.specs.Prelude.{◌≡◌, ℕ, ◌+◌, ◌^◌, ◌<◌, �
 ghost use Rattle.std.specs.Vec.{vec_capacity};
 ghost use Rattle.hm_codes.specs.Listing.{Listing, IsListing};
 ghost use Rattle.hm_cpu.specs.Cpus.{nested_of, CountsNone, IsPosition, IsSoundUnder, IsSoundUnderSome, KeepsFlash};
-ghost use Rattle.hm_handlers.specs.Nested.{at_step, letter, letters};
-ghost use Rattle.hm_handlers.specs.Runs.{Pointers, ended, tick_end};
+ghost use Rattle.hm_run_laws.specs.Nested.{at_step, letter, letters};
+ghost use Rattle.hm_run_laws.specs.Runs.{Pointers, ended, tick_end};
 ghost use Rattle.hm_machine.specs.Ticked.{ticked, Came};
 ghost use Rattle.hm_machine.specs.Shown.{run_with};
 ghost use Rattle.hm_mem.specs.Memory.{memory_of, flash_at};

@@ -13,12 +13,12 @@ use Rattle.hm_plan.specs.declared.lines.Lines.{Lines}
 use Rattle.hm_plan_laws.proofs.Loops.{Stands, few, none_first, runs_on, stands_first, stands_next, stands_over}
 use Rattle.hm_plan_laws.proofs.Plans.{is_below, not_below}
 use Rattle.hm_plan_laws.specs.Greedy.{greedy_at}
-use Rattle.hm_position.proofs.Prefixes.{one_tick}
+use Rattle.hm_run_laws.proofs.Prefixes.{one_tick}
 use Rattle.hm_plan_laws.specs.Planned.{grown, is_over, lines_from, plan_line, planned}
 use Rattle.hm_plan_laws.specs.declared.Greedy.{Greedy}
 use Rattle.hm_run.specs.Bare.{bare, bare_program}
 use Rattle.hm_run.specs.Program.{Program}
-use Rattle.hm_handlers.specs.Runs.{Run, begin}
+use Rattle.hm_run_laws.specs.Runs.{Run, begin}
 use Rattle.hm_sched.specs.Schedule.{TickLine, Sched, total}
 
 pub if_ok : {T E : Type 0} (P Q : T → Type 0) (r : Result T E) → ((x : T) → P x → Q x) → IfOk r P → IfOk r Q

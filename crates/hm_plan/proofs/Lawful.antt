@@ -8,10 +8,10 @@ use Rattle.hm_isa.specs.declared.Vector.{Vector}
 use Rattle.hm_order.specs.Beats.{then}
 use Rattle.hm_order.specs.Machine.{Config, begin, Stopped, did, done, older, older_of, settle, younger, younger_of}
 use Rattle.hm_order.proofs.Results.{ok_err, ok_same}
-use Rattle.hm_handlers.proofs.Order.{out_ends}
-use Rattle.hm_handlers.proofs.Quiet.{alone_is, run_still}
-use Rattle.hm_handlers.specs.Nested.{Ended, Nested, NestedEnd, TickEnd, at_step, letters, with_acts}
-use Rattle.hm_handlers.specs.Runs.{Pointers, Run, after_count, begin as begin_run, closed, ended, enters, may_enter, next, picks, run, stops, tick, tick_of}
+use Rattle.hm_run_laws.proofs.Order.{out_ends}
+use Rattle.hm_run_laws.proofs.Quiet.{alone_is, run_still}
+use Rattle.hm_run_laws.specs.Nested.{Ended, Nested, NestedEnd, TickEnd, at_step, letters, with_acts}
+use Rattle.hm_run_laws.specs.Runs.{Pointers, Run, after_count, begin as begin_run, closed, ended, enters, may_enter, next, picks, run, stops, tick, tick_of}
 use Rattle.hm_plan_laws.proofs.Loops.{runs_on}
 use Rattle.hm_plan_laws.proofs.Open.{rule_none}
 use Rattle.hm_plan_laws.specs.Ends.{IsGreedyAt}

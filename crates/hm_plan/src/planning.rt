@@ -15,7 +15,7 @@ ghost use Rattle.hm_plan_laws.specs.Planned.{grown, is_over, plan_line, planned}
 ghost use Rattle.hm_run.specs.Bare.{bare, bare_program};
 ghost use Rattle.hm_run.specs.InOrder.{in_order};
 ghost use Rattle.hm_run.specs.Program.{vector_of};
-ghost use Rattle.hm_handlers.specs.Runs.{run, shown_out, tick};
+ghost use Rattle.hm_run_laws.specs.Runs.{run, shown_out, tick};
 ghost use Rattle.hm_sched.specs.Schedule.{TickLine, most_ticks, older_letter, ticks_of};
 ghost use Rattle.hm_state.specs.Start.{reset_pc};
 

@@ -3,14 +3,14 @@ use Rattle.std.proofs.Common.{◌≡◌, ℕ, List, [], ◌∷◌, length, Optio
 use Rattle.std.proofs.Math.Seq.{drop-length, take-length}
 use Rattle.hm_base.specs.Image.{Segment}
 use Rattle.hm_codes.specs.Listing.{Listing}
-use Rattle.hm_handlers.specs.Nested.{Nested, TickEnd, letters}
-use Rattle.hm_handlers.specs.Runs.{Run, begin, closed, ended, run_out, tick, tick_of}
+use Rattle.hm_run_laws.specs.Nested.{Nested, TickEnd, letters}
+use Rattle.hm_run_laws.specs.Runs.{Run, begin, closed, ended, run_out, tick, tick_of}
 use Rattle.hm_plan_laws.specs.Greedy.{letters_of}
 use Rattle.hm_plan_laws.specs.Planned.{plan_line}
 use Rattle.hm_plan_laws.specs.declared.Greedy.{Greedy}
 use Rattle.hm_plan_laws.proofs.Lines.{Does}
-use Rattle.hm_position.proofs.Prefixes.{run_taken, ticks_bare}
-use Rattle.hm_position.specs.Next.{after_ticks}
+use Rattle.hm_run_laws.proofs.Prefixes.{run_taken, ticks_bare}
+use Rattle.hm_run_laws.specs.Next.{after_ticks}
 use Rattle.hm_run.specs.Bare.{bare}
 use Rattle.hm_run.specs.declared.Outcome.{Outcome}
 use Rattle.hm_sched.specs.Schedule.{TickLine, Sched, ticks_of, no_irq}

@@ -10,10 +10,10 @@ use Rattle.hm_order.specs.Beats.{then}
 use Rattle.hm_order.specs.Machine.{Config, older, younger, younger_of}
 use Rattle.hm_order.proofs.Results.{ok_err, then_ok_at}
 use Rattle.hm_plan_laws.specs.Greedy.{IsReady}
-use Rattle.hm_position.proofs.Prefixes.{run_taken}
-use Rattle.hm_position.specs.Next.{after_ticks}
+use Rattle.hm_run_laws.proofs.Prefixes.{run_taken}
+use Rattle.hm_run_laws.specs.Next.{after_ticks}
 use Rattle.hm_run.specs.Program.{Program, Stepped}
-use Rattle.hm_handlers.specs.Runs.{Run, begin, closed, run}
+use Rattle.hm_run_laws.specs.Runs.{Run, begin, closed, run}
 use Rattle.hm_run.specs.Ready.{goes_on, is_ready}
 use Rattle.hm_sched.specs.Schedule.{TickLine, Sched, ticks_of}
 use Rattle.hm_state.specs.State.{State}

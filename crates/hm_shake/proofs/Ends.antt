@@ -3,8 +3,8 @@ use Rattle.std.proofs.Common.{◌≡◌, ◌≢◌, ℕ, List, length, ap, refl,
 use Rattle.std.specs.Prelude.{IfSome}
 use Rattle.hm_base.specs.Image.{Segment, flash_byte}
 use Rattle.hm_codes.specs.Listing.{IsListing, Listing}
-use Rattle.hm_handlers.proofs.Alike.{alike_every}
-use Rattle.hm_handlers.specs.Runs.{Run, run_out, shown_out}
+use Rattle.hm_run_laws.proofs.Alike.{alike_every}
+use Rattle.hm_run_laws.specs.Runs.{Run, run_out, shown_out}
 use Rattle.hm_machine.specs.Shown.{Shown, Shows, timed_of}
 use Rattle.hm_run.specs.Report.{report_text}
 use Rattle.hm_run.specs.declared.Outcome.{Outcome}

@@ -5,7 +5,7 @@ use Rattle.std.specs.Prelude.{IfSome}
 use Rattle.std.proofs.lemmas.List.Elements.{All-same, All-weaker}
 use Rattle.hm_base.specs.Image.{Segment}
 use Rattle.hm_codes.specs.Listing.{Listing}
-use Rattle.hm_handlers.specs.Runs.{shown_out}
+use Rattle.hm_run_laws.specs.Runs.{shown_out}
 use Rattle.hm_run.specs.Report.{report_text}
 use Rattle.hm_sched.specs.Schedule.{Sched}
 use Rattle.hm_shake.proofs.Apart.{files_named}

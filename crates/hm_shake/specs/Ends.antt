@@ -2,7 +2,7 @@
 use Rattle.std.specs.Prelude.{◌≡◌, ◌≢◌, ◌<◌, ℕ, List, Option, Some, None, map, true}
 use Rattle.hm_base.specs.Image.{Segment}
 use Rattle.hm_codes.specs.Listing.{Listing}
-use Rattle.hm_handlers.specs.Runs.{run_out}
+use Rattle.hm_run_laws.specs.Runs.{run_out}
 use Rattle.hm_run.specs.declared.Outcome.{Outcome}
 use Rattle.hm_sched.specs.Schedule.{Sched, most_ticks, plain, total}
 use Rattle.hm_shake.specs.Kinds.{is_halt}

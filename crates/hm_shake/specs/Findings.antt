@@ -3,7 +3,7 @@ use Rattle.std.specs.Prelude.{◌≡◌, ◌≢◌, ◌⊎◌, ℕ, ◌<◌, ◌
 use Rattle.std.specs.List.{All}
 use Rattle.hm_base.specs.Image.{Segment}
 use Rattle.hm_codes.specs.Listing.{Listing}
-use Rattle.hm_handlers.specs.Runs.{shown_out}
+use Rattle.hm_run_laws.specs.Runs.{shown_out}
 use Rattle.hm_run.specs.Report.{report_text}
 use Rattle.hm_sched.specs.Schedule.{Sched, most_irq, total}
 use Rattle.hm_sched.specs.Written.{IsFile}

@@ -4,7 +4,7 @@ ghost use Rattle.std.specs.Prelude.{◌≡◌, ◌≤◌, ◌%◌, IfOk, IfErr, 
 ghost use Rattle.std.specs.List.{All};
 ghost use Rattle.hm_base.specs.Image.{Segment, flash_byte};
 ghost use Rattle.hm_codes.specs.Listing.{IsListing, Listing};
-ghost use Rattle.hm_handlers.specs.Runs.{shown_out};
+ghost use Rattle.hm_run_laws.specs.Runs.{shown_out};
 ghost use Rattle.hm_machine.specs.Calls.{LoadRefuses};
 ghost use Rattle.hm_run.specs.Report.{report_text};
 ghost use Rattle.hm_sched.specs.Schedule.{Sched, most_irq, most_ticks, total};

@@ -5,10 +5,10 @@ use Rattle.std.proofs.lemmas.Bool.{leb-false, leb-true}
 use Rattle.std.proofs.Math.Seq.{drop-length, take-length}
 use Rattle.hm_base.specs.Image.{Segment}
 use Rattle.hm_codes.specs.Listing.{Listing}
-use Rattle.hm_handlers.specs.Nested.{Nested, TickEnd, letters}
-use Rattle.hm_handlers.specs.Runs.{Run, begin, closed, ended, run_out, tick_of}
-use Rattle.hm_position.proofs.Prefixes.{one_tick, run_taken, ticks_bare}
-use Rattle.hm_position.specs.Next.{after_ticks}
+use Rattle.hm_run_laws.specs.Nested.{Nested, TickEnd, letters}
+use Rattle.hm_run_laws.specs.Runs.{Run, begin, closed, ended, run_out, tick_of}
+use Rattle.hm_run_laws.proofs.Prefixes.{one_tick, run_taken, ticks_bare}
+use Rattle.hm_run_laws.specs.Next.{after_ticks}
 use Rattle.hm_run.specs.declared.Outcome.{Outcome}
 use Rattle.hm_sched.proofs.Ticks.{length-ticks_of}
 use Rattle.hm_sched.specs.Schedule.{Sched, TickLine, repeat, ticks_of, total}

@@ -32,12 +32,12 @@ use Rattle.hm_state.specs.State.{State, regs_of}
 use Rattle.hm_whole.specs.Whole.{Went, scalar_in_machine, seen_in}
 use Rattle.hm_window.specs.Positions.{may_end}
 use Rattle.hm_window.specs.declared.rule.Rule.{Rule}
-use Rattle.hm_handlers.specs.Entries.{refused}
-use Rattle.hm_handlers.specs.Nested.{Ended, Interrupted, Nested, NestedEnd, NestedStep, Offends, TickEnd, around_under, at_step, flows, handles, letters}
-use Rattle.hm_handlers.specs.Nested.{program_under, returned, step, step_under, uncounted, went, with_acts}
-use Rattle.hm_handlers.specs.Runs.{Pointers, Run, after_count, closed, ended, enters, enters_unless, may_enter, next, picks, run, run_out, stacked_of, stops}
-use Rattle.hm_handlers.specs.Runs.{tick_end, tick_of}
-use Rattle.hm_handlers.specs.Runs as runs
+use Rattle.hm_run_laws.specs.Entries.{refused}
+use Rattle.hm_run_laws.specs.Nested.{Ended, Interrupted, Nested, NestedEnd, NestedStep, Offends, TickEnd, around_under, at_step, flows, handles, letters}
+use Rattle.hm_run_laws.specs.Nested.{program_under, returned, step, step_under, uncounted, went, with_acts}
+use Rattle.hm_run_laws.specs.Runs.{Pointers, Run, after_count, closed, ended, enters, enters_unless, may_enter, next, picks, run, run_out, stacked_of, stops}
+use Rattle.hm_run_laws.specs.Runs.{tick_end, tick_of}
+use Rattle.hm_run_laws.specs.Runs as runs
 use Rattle.hm_shake_runs.specs.Runs.{AreOlder, IsOlder}
 use Rattle.hm_shake_runs.specs.Shaken.{shaken, shaken_schedule}
 use Rattle.hm_shake_runs.specs.Stretches.{steps, stretch_line}

@@ -2,9 +2,9 @@
 use Rattle.std.proofs.Common.{◌≡◌, ◌∙◌, ℕ, List, Some, false, refl, sym}
 use Rattle.hm_base.specs.Image.{Segment}
 use Rattle.hm_codes.specs.Listing.{Listing}
-use Rattle.hm_handlers.specs.Runs.{run_out}
-use Rattle.hm_plain.proofs.Plain.{tells}
-use Rattle.hm_plain.specs.Orders.{plain_end, plain_ticks}
+use Rattle.hm_run_laws.specs.Runs.{run_out}
+use Rattle.hm_run_laws.proofs.Plain.{tells}
+use Rattle.hm_run_laws.specs.Plain.{plain_end, plain_ticks}
 use Rattle.hm_run.specs.InOrder.{in_order}
 use Rattle.hm_sched.specs.Schedule.{Sched, plain, plain_lines}
 use Rattle.hm_shake_runs.specs.Heads.{whole_ticks}

@@ -4,7 +4,7 @@ ghost use Rattle.std.specs.Prelude.{◌≡◌, ◌≢◌, ◌<◌, ◌≤◌, �
 ghost use Rattle.std.specs.List.{All};
 ghost use Rattle.hm_base.specs.Image.{Segment};
 ghost use Rattle.hm_codes.specs.Listing.{Listing};
-ghost use Rattle.hm_handlers.specs.Runs.{run_out, shown_out};
+ghost use Rattle.hm_run_laws.specs.Runs.{run_out, shown_out};
 ghost use Rattle.hm_run.specs.Report.{report_text};
 ghost use Rattle.hm_run.specs.declared.Outcome.TheVariants.{Halted, RuleBroken};
 ghost use Rattle.hm_run.specs.declared.Reason.{Reason};

@@ -5,9 +5,9 @@ use Rattle.std.proofs.lemmas.Bool.Decides.{nat_tests}
 use Rattle.hm_base.specs.Image.{Segment, flash_byte}
 use Rattle.hm_codes.proofs.Exists.{exists}
 use Rattle.hm_codes.specs.Listing.{IsListing, Listing}
-use Rattle.hm_handlers.proofs.TickCounts.{closed_ticks}
-use Rattle.hm_handlers.specs.Runs.{Run, begin, run}
-use Rattle.hm_handlers.proofs.Ends.{closed_on}
+use Rattle.hm_run_laws.proofs.TickCounts.{closed_ticks}
+use Rattle.hm_run_laws.specs.Runs.{Run, begin, run}
+use Rattle.hm_run_laws.proofs.Ends.{closed_on}
 use Rattle.hm_machine.proofs.Ticks.{shows_end, shows_past}
 use Rattle.hm_machine.specs.Shown.{Shown, Shows, fixed_of, timed_of}
 use Rattle.hm_order.proofs.Results.{decide}

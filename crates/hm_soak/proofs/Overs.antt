@@ -5,7 +5,7 @@ use Rattle.hm_base.specs.Image.{Segment, flash_byte}
 use Rattle.hm_base.specs.declared.errors.OutOfMemory.{OutOfMemory}
 use Rattle.hm_codes.proofs.Exists.{exists}
 use Rattle.hm_codes.specs.Listing.{IsListing, Listing}
-use Rattle.hm_handlers.specs.Runs.{Run, run_out}
+use Rattle.hm_run_laws.specs.Runs.{Run, run_out}
 use Rattle.hm_machine.specs.Shown.{Shown, timed_of}
 use Rattle.hm_run.specs.declared.Outcome.TheVariants as outcome
 use Rattle.hm_run.specs.declared.Reason.{Reason}

@@ -2,7 +2,7 @@
 use Rattle.std.specs.Prelude.{◌≡◌, ℕ, List, length}
 use Rattle.hm_base.specs.Image.{Segment, flash_byte}
 use Rattle.hm_codes.specs.Listing.{IsListing, Listing}
-use Rattle.hm_handlers.specs.Runs.{run_out}
+use Rattle.hm_run_laws.specs.Runs.{run_out}
 use Rattle.hm_machine.specs.Shown.{Shown, Shows}
 use Rattle.hm_sched.specs.Schedule.{Sched, ticks_of}
 use Rattle.hm_soak_laws.specs.Summary.{entered}

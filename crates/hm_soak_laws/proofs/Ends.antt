@@ -2,17 +2,17 @@
 use Rattle.std.proofs.Common.{◌≡◌, ℕ, sym, ap, ◌∙◌, subst, length, List, [], Some, Option}
 use Rattle.hm_base.specs.Image.{Segment}
 use Rattle.hm_codes.specs.Listing.{Listing}
-use Rattle.hm_handlers.proofs.Alike.{alike_every}
-use Rattle.hm_handlers.proofs.Order.{keeps_order}
-use Rattle.hm_handlers.specs.Order.{HaltsInThread, thread_at}
-use Rattle.hm_handlers.specs.Nested.{Nested}
-use Rattle.hm_handlers.specs.Runs.{run_out}
-use Rattle.hm_in_order.proofs.Halts.{halted_as}
-use Rattle.hm_plain.proofs.Plain.{plain_ends}
-use Rattle.hm_in_order.proofs.Readings.{shown_alike}
-use Rattle.hm_plain.specs.Orders.{plain_end}
-use Rattle.hm_in_order.specs.Overlap.{AgreesAfter, HaltsAfter}
-use Rattle.hm_in_order.specs.Readings.{ShownAlike}
+use Rattle.hm_run_laws.proofs.Alike.{alike_every}
+use Rattle.hm_run_laws.proofs.Order.{keeps_order}
+use Rattle.hm_run_laws.specs.Order.{HaltsInThread, thread_at}
+use Rattle.hm_run_laws.specs.Nested.{Nested}
+use Rattle.hm_run_laws.specs.Runs.{run_out}
+use Rattle.hm_run_laws.proofs.Halts.{halted_as}
+use Rattle.hm_run_laws.proofs.Plain.{plain_ends}
+use Rattle.hm_run_laws.proofs.Readings.{shown_alike}
+use Rattle.hm_run_laws.specs.Plain.{plain_end}
+use Rattle.hm_run_laws.specs.Overlap.{AgreesAfter, HaltsAfter}
+use Rattle.hm_run_laws.specs.Readings.{ShownAlike}
 use Rattle.hm_run.specs.declared.Outcome.{Outcome}
 use Rattle.hm_run.specs.declared.Outcome.TheVariants as outcome
 use Rattle.hm_run.specs.declared.Reason.{Reason}

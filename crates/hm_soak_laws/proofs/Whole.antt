@@ -6,7 +6,7 @@ use Rattle.std.proofs.lemmas.Slice.Zip.{AllZip-long}
 use Rattle.hm_base.specs.Draws.{drawn}
 use Rattle.hm_base.specs.Image.{Segment, flash_byte, flash_size, flat}
 use Rattle.hm_codes.specs.Listing.{HalvesStand, IsListing, Listing}
-use Rattle.hm_handlers.specs.Runs.{run_out}
+use Rattle.hm_run_laws.specs.Runs.{run_out}
 use Rattle.hm_isa.specs.declared.Instr.{Instr}
 use Rattle.hm_run.specs.declared.Outcome.TheVariants as outcome
 use Rattle.hm_run.specs.declared.Reason.{Reason}

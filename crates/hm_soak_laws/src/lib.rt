@@ -5,7 +5,7 @@
 ghost use Rattle.std.specs.Prelude.{◌≡◌, ◌+◌, ℕ, false, true, List, Ok, Some, length};
 ghost use Rattle.hm_base.specs.Image.{Segment, flash_byte};
 ghost use Rattle.hm_codes.specs.Listing.{IsListing, Listing};
-ghost use Rattle.hm_handlers.specs.Runs.{run_out};
+ghost use Rattle.hm_run_laws.specs.Runs.{run_out};
 ghost use Rattle.hm_sched.specs.Schedule.{IsSched, Sched, total};
 ghost use Rattle.hm_state.specs.Start.{reset_pc};
 ghost use Rattle.hm_isa.specs.declared.Instr.{Instr};

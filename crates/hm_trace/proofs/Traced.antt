@@ -3,7 +3,7 @@ use Rattle.std.proofs.Common.{◌≡◌, ℕ, zero, suc, ◌+◌, ◌-◌, ◌<�
 use Rattle.std.proofs.Common.{append-nil, append_assoc, drop, length, nat_lt, Option, Some, None}
 use Rattle.hm_base.specs.Image.{Segment, flash_byte}
 use Rattle.hm_codes.specs.Listing.{IsListing, Listing}
-use Rattle.hm_handlers.specs.Runs.{run, shown}
+use Rattle.hm_run_laws.specs.Runs.{run, shown}
 use Rattle.hm_machine.proofs.Bares.{has_ticks}
 use Rattle.hm_machine.proofs.Ticks.{timed_is}
 use Rattle.hm_machine.specs.Shown.{Shown, Shows, timed_of}

@@ -1,6 +1,6 @@
 -- WHAT ENTERED OR RETURNED IN A TICK.
 use Rattle.std.specs.Prelude.{ℕ, Bool, true, false, nat_lt, if◌then◌else◌, length}
-use Rattle.hm_handlers.specs.Runs.{Run, shown}
+use Rattle.hm_run_laws.specs.Runs.{Run, shown}
 use Rattle.hm_machine.specs.Shown.{Shown, timed_of}
 use Rattle.hm_trace.specs.declared.marks.Mark.{Mark}
 use Rattle.hm_trace.specs.declared.marks.Mark.TheVariants.{Nothing, Entry, Return, Both}

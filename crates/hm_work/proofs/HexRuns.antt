@@ -1,15 +1,15 @@
--- A run of an image and a run of its file of Intel HEX.
+-- What the command that runs comes to over an image and over its file of Intel HEX.
 use Rattle.std.proofs.Common.{◌≡◌, ◌%◌, ℕ, Bool, true, List, Option, Some, None, Result, Ok, Err, nat_eq, refl, ap, ◌∙◌}
 use Rattle.std.specs.Prelude.{if◌then◌else◌}
 use Rattle.hm_base.specs.Image.{IsImage, Segment, flash_byte}
 use Rattle.hm_base.specs.declared.errors.ImageErr.{ImageErr}
 use Rattle.hm_codes.specs.Listing.{Listing}
 use Rattle.hm_elf.specs.ReadImage.{image_in}
-use Rattle.hm_handlers.specs.Runs.{shown_out}
+use Rattle.hm_run_laws.specs.Runs.{shown_out}
 use Rattle.hm_ihex.proofs.ReadBack.{read_back_is}
 use Rattle.hm_ihex.specs.Files.{hex_in}
 use Rattle.hm_ihex.specs.Written.{AreBytes, hex_file, joined}
-use Rattle.hm_ihex_laws.proofs.HexRuns.{hex_colon, joined_listing, joined_reset, joined_shown}
+use Rattle.hm_work.proofs.HexImages.{hex_colon, joined_listing, joined_reset, joined_shown}
 use Rattle.hm_run.specs.Timed.{Timed}
 use Rattle.hm_sched.specs.Schedule.{Sched}
 use Rattle.hm_sched.specs.declared.errors.SchedErr.{SchedErr}

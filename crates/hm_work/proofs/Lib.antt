@@ -3,6 +3,9 @@ pub mod Runs
 pub mod Contents
 pub mod RunInputs
 pub mod Taping
+pub mod Plainly
+pub mod SameImage
+pub mod HexImages
 pub mod HexRuns
 pub mod Compiling
 pub mod OneOutcome

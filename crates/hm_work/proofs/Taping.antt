@@ -18,7 +18,7 @@ use Rattle.hm_journal.specs.Outcomes.{IsReadErr}
 use Rattle.hm_journal.specs.Runs.{AreOfRun, IsCompareErr, IsWriteErr, journal_of, report_at}
 use Rattle.hm_journal.specs.declared.journal.JournalErr.{JournalErr}
 use Rattle.hm_journal.specs.declared.journal.JournalErr.TheVariants as journal
-use Rattle.hm_handlers.specs.Runs.{run_out}
+use Rattle.hm_run_laws.specs.Runs.{run_out}
 use Rattle.hm_machine.specs.Calls.{LoadRefuses}
 use Rattle.hm_machine.specs.declared.load.LoadErr.{LoadErr}
 use Rattle.hm_sched.specs.Schedule.{Sched, ticks_of}

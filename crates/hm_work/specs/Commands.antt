@@ -14,7 +14,7 @@ use Rattle.hm_debug.specs.declared.errors.ScriptErr.{ScriptErr}
 use Rattle.hm_elf.specs.Elf.{most_headers}
 use Rattle.hm_work.specs.Images.{image_of}
 use Rattle.hm_elf.specs.WriteImage.{elf_file}
-use Rattle.hm_handlers.specs.Runs.{run_out, shown_out}
+use Rattle.hm_run_laws.specs.Runs.{run_out, shown_out}
 use Rattle.hm_ihex.specs.Written.{hex_file}
 use Rattle.hm_journal.specs.Journals.{Journaled, journal_text, most_checkpoints}
 use Rattle.hm_journal.specs.Outcomes.{IsReading as IsJournalRead}

@@ -2,10 +2,11 @@
 use Rattle.std.specs.Prelude.{◌≡◌, ℕ, ◌%◌, Bool, true, false, List, Option, Some, None, nat_eq, if◌then◌else◌, Result, Ok, Err}
 use Rattle.hm_base.specs.Image.{Segment, flash_byte}
 use Rattle.hm_codes.specs.Listing.{Listing, IsListing}
-use Rattle.hm_handlers.specs.Runs.{shown_out}
+use Rattle.hm_run_laws.specs.Runs.{shown_out}
 use Rattle.hm_machine.specs.Shown.{Shown, timed_of}
 use Rattle.hm_machine.specs.declared.load.LoadErr.{LoadErr}
 use Rattle.hm_machine.specs.declared.load.LoadErr.TheVariants as load
+use Rattle.hm_run.specs.InOrder.{InOrder, Running, Halted, Full, Faulted}
 use Rattle.hm_run.specs.declared.Outcome.{Outcome}
 use Rattle.hm_run.specs.declared.Outcome.TheVariants as outcome
 use Rattle.hm_sched.specs.Schedule.{Sched, plain}
@@ -23,6 +24,13 @@ use Rattle.hm_words.specs.Words.{Source, ticks, file}
 abbrev pub is_halted : Option Outcome → Bool
 is_halted (Some (outcome.Halted reason n)) = true
 is_halted o = false
+
+-- whether instructions in order halted
+abbrev pub has_halted : InOrder → Bool
+has_halted (Running s) = false
+has_halted (Halted reason k s) = true
+has_halted (Full k s) = false
+has_halted (Faulted kind pc addr k) = false
 
 -- the word at 4 has to be odd
 abbrev pub reset_refusal : List Segment → Option Refusal

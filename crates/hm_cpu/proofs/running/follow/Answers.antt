@@ -3,7 +3,7 @@ use Rattle.hm_cpu.proofs.Nestings.{returned_from}
 use Rattle.hm_cpu.specs.Cpus.{config_of, interrupted_of, state_in}
 use Rattle.hm_exc.specs.Return.{return_rule}
 use Rattle.hm_exc.specs.declared.types.Activation.{Activation}
-use Rattle.hm_handlers.specs.Nested.{Nested, NestedStep, Offends, flows}
+use Rattle.hm_run_laws.specs.Nested.{Nested, NestedStep, Offends, flows}
 use Rattle.hm_isa.specs.declared.Flow.{Flow}
 use Rattle.hm_run.specs.declared.Offence.TheVariants as offence
 use Rattle.hm_state.specs.State.{regs_of}

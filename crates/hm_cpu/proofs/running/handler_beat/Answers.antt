@@ -1,6 +1,6 @@
 use Rattle.std.proofs.Common.{List, ap, ◌∙◌, Ok, Err}
 use Rattle.hm_exec.specs.Families.{row_of}
-use Rattle.hm_handlers.specs.Nested.{Interrupted, with_acts}
+use Rattle.hm_run_laws.specs.Nested.{Interrupted, with_acts}
 use Rattle.hm_cpu.proofs.Going.{beats_go_on}
 use Rattle.hm_cpu.proofs.Nestings.{newest_there, row_steps, same_acts}
 use Rattle.hm_cpu.specs.Cpus.{config_of, reached, stepped}

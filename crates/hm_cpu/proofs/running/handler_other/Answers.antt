@@ -2,7 +2,7 @@ use Rattle.std.proofs.Common.{refl, ap, sym, ◌∙◌}
 use Rattle.hm_cpu.proofs.Nestings.{newest_there, other_steps, other_stops}
 use Rattle.hm_cpu.proofs.Steps.{begun_is}
 use Rattle.hm_cpu.specs.Cpus.{config_of, interrupted_of, places_of, state_in}
-use Rattle.hm_handlers.specs.Nested.{went}
+use Rattle.hm_run_laws.specs.Nested.{went}
 use Rattle.hm_mem.specs.Memory.{memory_of}
 use Rattle.hm_run.specs.Program.{core}
 use Rattle.hm_state.specs.State.{state_of}

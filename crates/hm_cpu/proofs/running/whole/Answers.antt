@@ -1,6 +1,6 @@
 use Rattle.std.proofs.Common.{Result, Err, ap, sym, ◌∙◌}
 use Rattle.hm_base.specs.declared.Fault.{Fault}
-use Rattle.hm_handlers.specs.Nested.{steps}
+use Rattle.hm_run_laws.specs.Nested.{steps}
 use Rattle.hm_isa.specs.declared.Instr.{Instr}
 use Rattle.hm_cpu.proofs.OneStep.{one_step}
 use Rattle.hm_recent.proofs.Rows.{listed_here}

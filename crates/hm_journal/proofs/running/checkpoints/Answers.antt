@@ -1,6 +1,6 @@
 use Rattle.std.proofs.Common.{◌≡◌, ℕ, ◌+◌, ◌*◌, ◌/◌, add-one, arith, ap, sym, ◌∙◌, subst, [], ◌∷◌, ◌++◌, map}
 use Rattle.std.proofs.lemmas.List.{map_push}
-use Rattle.hm_handlers.specs.Runs.{run_out}
+use Rattle.hm_run_laws.specs.Runs.{run_out}
 use Rattle.hm_machine.specs.Taped.{Taped, Tapes}
 use Rattle.hm_journal.specs.Runs.{first_checkpoints, report_at}
 use Rattle.hm_journal.specs.Views.{checkpoint_of}

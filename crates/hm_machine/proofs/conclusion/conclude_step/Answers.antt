@@ -1,8 +1,8 @@
 use Rattle.std.proofs.Common.{ap, sym, ◌∙◌}
 use Rattle.hm_cpu.specs.Cpus.{config_of, nested_of, step_ended}
 use Rattle.hm_cpu.specs.declared.step_ends.StepEnd.{StepEnd}
-use Rattle.hm_handlers.specs.Nested.{Ended}
-use Rattle.hm_handlers.specs.Runs.{stops}
+use Rattle.hm_run_laws.specs.Nested.{Ended}
+use Rattle.hm_run_laws.specs.Runs.{stops}
 use Rattle.hm_machine.proofs.conclusion.conclude_step.Goals as goal
 
 pub returns-in-Stopped-clause-ended : goal.returns-in-Stopped-clause-ended

@@ -1,6 +1,6 @@
 use Rattle.std.proofs.Common.{ℕ, map, refl, ap, sym, ◌∙◌}
 use Rattle.hm_cpu.specs.Cpus.{config_of, nested_of}
-use Rattle.hm_handlers.specs.Runs.{stacked_of}
+use Rattle.hm_run_laws.specs.Runs.{stacked_of}
 use Rattle.hm_run.specs.declared.Cause.{Cause}
 use Rattle.hm_run.specs.Timed.{outcome_of, outcome_of_stop}
 use Rattle.hm_state.specs.State.{state_of}

@@ -1,7 +1,7 @@
 use Rattle.std.proofs.Common.{ap, sym}
 use Rattle.hm_cpu.specs.Cpus.{config_of}
 use Rattle.hm_exc.specs.declared.types.EnterErr.{EnterErr}
-use Rattle.hm_handlers.specs.Entries.{refused}
+use Rattle.hm_run_laws.specs.Entries.{refused}
 use Rattle.hm_state.specs.State.{state_of}
 use Rattle.hm_machine.proofs.entry.refused.Goals as goal
 

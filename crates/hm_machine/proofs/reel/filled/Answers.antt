@@ -7,7 +7,7 @@ use Rattle.hm_machine.specs.Checkpoints.{IsKept}
 use Rattle.hm_machine.specs.Shown.{Shows, fixed_of}
 use Rattle.hm_machine.specs.Tapes.{AreApart, AreKept, ShowsTick, first_of, machine_at}
 use Rattle.hm_machine.specs.declared.checkpoint.Checkpoint.{Checkpoint}
-use Rattle.hm_position.specs.Next.{Begins}
+use Rattle.hm_run_laws.specs.Next.{Begins}
 use Rattle.hm_machine.proofs.reel.filled.Goals as goal
 
 pub loop-k-init : goal.loop-k-init

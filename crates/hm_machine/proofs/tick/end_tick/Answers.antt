@@ -1,7 +1,7 @@
 use Rattle.std.proofs.Common.{[], sym, ◌∙◌, subst}
 use Rattle.hm_cpu.specs.Cpus.{nested_of}
-use Rattle.hm_handlers.proofs.Soundness.{counted_sound}
-use Rattle.hm_handlers.specs.Sound.{IsSound}
+use Rattle.hm_run_laws.proofs.Soundness.{counted_sound}
+use Rattle.hm_run_laws.specs.Sound.{IsSound}
 use Rattle.hm_machine.proofs.Ends.{counted_nested, ends_picked, ends_quiet}
 use Rattle.hm_machine.proofs.Ticks.{may_end_well}
 use Rattle.hm_sched.specs.Schedule.{TickLine}

@@ -1,7 +1,7 @@
 use Rattle.std.proofs.Common.{◌≡◌, ◌+◌, ◌*◌, ◌≤◌, drop}
 use Rattle.hm_codes.specs.Listing.{Listing, IsListing}
 use Rattle.hm_cpu.specs.Cpus.{nested_of, IsPosition, IsSoundUnder, IsSoundUnderSome, KeepsFlash}
-use Rattle.hm_handlers.specs.Nested.{letters}
+use Rattle.hm_run_laws.specs.Nested.{letters}
 use Rattle.hm_mem.specs.Memory.{memory_of, flash_at}
 use Rattle.hm_sched.specs.Schedule.{Sched}
 use Rattle.hm_machine.proofs.tick.letters.Given as goal

@@ -1,7 +1,7 @@
 use Rattle.std.proofs.Common.{◌≡◌, ℕ, List, length, ap, sym, ◌∙◌, subst, None, Result, Ok, Err}
 use Rattle.hm_cpu.specs.Cpus.{nested_of}
-use Rattle.hm_handlers.specs.Nested.{Nested, TickEnd, letters}
-use Rattle.hm_handlers.specs.Runs.{ended, stops, tick_end}
+use Rattle.hm_run_laws.specs.Nested.{Nested, TickEnd, letters}
+use Rattle.hm_run_laws.specs.Runs.{ended, stops, tick_end}
 use Rattle.hm_machine.proofs.Runs.{came_over}
 use Rattle.hm_machine.specs.Ticked.{early_ended, Came}
 use Rattle.hm_machine.specs.Shown.{run_with}

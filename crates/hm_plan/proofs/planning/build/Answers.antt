@@ -4,7 +4,7 @@ use Rattle.hm_codes.proofs.Exists.{exists}
 use Rattle.hm_machine.specs.Shown.{run_of}
 use Rattle.hm_plan.proofs.Growing.{all_lined, first_follow, nothing_lined}
 use Rattle.hm_plan_laws.specs.Planned.{is_over}
-use Rattle.hm_handlers.specs.Runs.{Run}
+use Rattle.hm_run_laws.specs.Runs.{Run}
 use Rattle.hm_plan.proofs.planning.build.Goals as goal
 
 -- THE END, at once

@@ -4,7 +4,7 @@ use Rattle.hm_machine.specs.Bares.{IsBare}
 use Rattle.hm_machine.specs.Shown.{Shown, run_of}
 use Rattle.hm_mem.specs.Memory.{flash_at}
 use Rattle.hm_plan_laws.specs.Planned.{plan_line}
-use Rattle.hm_handlers.specs.Runs.{tick}
+use Rattle.hm_run_laws.specs.Runs.{tick}
 use Rattle.hm_run.specs.Bare.{bare}
 use Rattle.hm_sched.specs.Schedule.{most_ticks}
 use Rattle.hm_plan.proofs.planning.go_on.Goals as goal

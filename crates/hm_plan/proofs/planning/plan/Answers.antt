@@ -9,7 +9,7 @@ use Rattle.hm_plan_laws.specs.Ends.{DecidedBy, EndsAs, IsGreedyAt, IsPlanEnd}
 use Rattle.hm_plan_laws.specs.Planned.{planned}
 use Rattle.hm_run.specs.Bare.{bare, bare_program}
 use Rattle.hm_run.specs.InOrder.{in_order}
-use Rattle.hm_handlers.specs.Runs.{run, shown_out, tick}
+use Rattle.hm_run_laws.specs.Runs.{run, shown_out, tick}
 use Rattle.hm_sched.specs.Schedule.{Sched, TickLine, older_letter, ticks_of}
 use Rattle.hm_plan.proofs.planning.plan.Goals as goal
 

@@ -1,4 +1,4 @@
-use Rattle.hm_handlers.proofs.Alike.{alike_every}
+use Rattle.hm_run_laws.proofs.Alike.{alike_every}
 use Rattle.hm_shake_runs.proofs.laws.reports_law.Goals as goal
 
 pub returns : goal.returns

@@ -1,5 +1,5 @@
 use Rattle.std.proofs.Common.{ap}
-use Rattle.hm_handlers.specs.Runs.{shown}
+use Rattle.hm_run_laws.specs.Runs.{shown}
 use Rattle.hm_work.proofs.Runs.{reset_refusal-odd}
 use Rattle.hm_work.proofs.machine.run_to_end.Goals as goal
 

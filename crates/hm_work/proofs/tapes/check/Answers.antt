@@ -1,7 +1,7 @@
 use Rattle.std.proofs.Common.{◌≡◌, Err, ap, sym, subst, ◌∙◌}
 use Rattle.std.proofs.lemmas.Result.{err_from_is_err_and}
 use Rattle.hm_machine.specs.Taped.{Taped, Tapes}
-use Rattle.hm_handlers.specs.Runs.{shown}
+use Rattle.hm_run_laws.specs.Runs.{shown}
 use Rattle.hm_run.specs.Report.{report_text}
 use Rattle.hm_work.specs.Commands.{IsCompared, UnlessRefused, tick_outcome}
 use Rattle.hm_work.specs.Run.{reset_refusal}

@@ -3,7 +3,7 @@ use Rattle.std.proofs.lemmas.List.{length-reverse}
 use Rattle.std.specs.Prelude.{reverse}
 use Rattle.hm_cpu.specs.Cpus.{interrupted_of}
 use Rattle.hm_exc.specs.declared.types.Activation.{Activation}
-use Rattle.hm_handlers.specs.Runs.{stacked_of}
+use Rattle.hm_run_laws.specs.Runs.{stacked_of}
 use Rattle.hm_machine.proofs.machine.Machine.active.Goals as goal
 
 -- what is shown of activations is what was put away

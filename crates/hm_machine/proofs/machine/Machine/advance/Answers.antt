@@ -6,8 +6,8 @@ use Rattle.hm_cpu.proofs.Keeping.{moved_bounds}
 use Rattle.hm_cpu.specs.Cpus.{nested_of}
 use Rattle.hm_machine.proofs.Bares.{stands_there}
 use Rattle.hm_codes.specs.Listing.{Listing}
-use Rattle.hm_handlers.specs.Nested.{Nested}
-use Rattle.hm_handlers.specs.Runs.{Pointers, Run, next, tick_of}
+use Rattle.hm_run_laws.specs.Nested.{Nested}
+use Rattle.hm_run_laws.specs.Runs.{Pointers, Run, next, tick_of}
 use Rattle.hm_machine.proofs.Runs.{comes_counted, comes_ended, comes_on, comes_out, comes_sound}
 use Rattle.hm_machine.proofs.Ticks.{some_left}
 use Rattle.hm_machine.specs.Ticked.{entered_in, Came}

@@ -1,6 +1,6 @@
 use Rattle.std.proofs.Common.{◌≡◌, ℕ, ◌+◌, ◌≤◌, arith, ap, inl, sym, ◌∙◌, subst, [], drop, length}
 use Rattle.hm_base.specs.Image.{flash_size}
-use Rattle.hm_handlers.specs.Sound.{IsSound}
+use Rattle.hm_run_laws.specs.Sound.{IsSound}
 use Rattle.hm_machine.proofs.Loads.{first_length, first_stands, running_ticks}
 use Rattle.hm_machine.proofs.Starts.{first_older, first_ticks, first_younger, kept_start, shows_again, sound_again}
 use Rattle.hm_machine.specs.Checkpoints.{at_checkpoint}

@@ -5,7 +5,7 @@ use Rattle.hm_cpu.proofs.Keeping.{moved_bounds, moved_flash}
 use Rattle.hm_cpu.specs.Cpus.{nested_of, IsSoundUnder}
 use Rattle.hm_cpu.specs.declared.cpu.Cpu.{Cpu}
 use Rattle.hm_exc.specs.Entry.{newest_first}
-use Rattle.hm_handlers.specs.Runs.{Run, tick, tick_of}
+use Rattle.hm_run_laws.specs.Runs.{Run, tick, tick_of}
 use Rattle.hm_machine.proofs.Bares.{ended_still, given_more, given_on, no_left, still_none}
 use Rattle.hm_machine.proofs.Runs.{comes_on, comes_sound}
 use Rattle.hm_machine.specs.Bares.{IsBare}

@@ -1,5 +1,5 @@
 use Rattle.std.proofs.Common.{◌≡◌, arith, ap, inr, sym, ◌∙◌, subst, [], length}
-use Rattle.hm_handlers.specs.Sound.{IsSound}
+use Rattle.hm_run_laws.specs.Sound.{IsSound}
 use Rattle.hm_machine.proofs.Bares.{first_position, first_sound, no_left}
 use Rattle.hm_machine.specs.Machines.{left_at}
 use Rattle.hm_machine.specs.Shown.{Shown, run_of}

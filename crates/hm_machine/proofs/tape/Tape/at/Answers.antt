@@ -1,5 +1,5 @@
 use Rattle.std.proofs.Common.{◌≡◌, ℕ, List, ap, arith, map, refl, sym, ◌∙◌, subst}
-use Rattle.hm_position.proofs.Outputs.{begins_same}
+use Rattle.hm_run_laws.proofs.Outputs.{begins_same}
 use Rattle.hm_machine.proofs.Reels.{first_still, kept_still, lie_first, lie_still, shows_first}
 use Rattle.hm_machine.specs.Shown.{Shown, Shows, fixed_of}
 use Rattle.hm_machine.specs.Taped.{Taped}

@@ -1,12 +1,12 @@
 use Rattle.std.proofs.Common.{◌≡◌, ⊎_elim, ℕ, ◌+◌, ◌*◌, ◌/◌, ◌<◌, ◌≤◌, List, ap, arith, length, refl, sym, ◌∙◌, subst}
 use Rattle.std.proofs.lemmas.List.{length-map}
-use Rattle.hm_handlers.specs.Runs.{Run}
+use Rattle.hm_run_laws.specs.Runs.{Run}
 use Rattle.hm_machine.proofs.Counts.{ticks_most}
 use Rattle.hm_machine.proofs.Reels.{at_end, count_is, first_still, kept_still, lie_first, lie_still, mapped, shows_first}
 use Rattle.hm_machine.specs.Shown.{Shown, Shows, fixed_of}
 use Rattle.hm_machine.specs.Tapes.{AreApart, AreKept, first_of, machine_at}
 use Rattle.hm_machine.specs.declared.checkpoint.Checkpoint.{Checkpoint}
-use Rattle.hm_position.specs.Next.{Begins}
+use Rattle.hm_run_laws.specs.Next.{Begins}
 use Rattle.hm_sched.specs.Schedule.{Sched, ticks_of}
 use Rattle.hm_machine.proofs.tape.Tape.new.Goals as goal
 

@@ -1,6 +1,0 @@
-use Rattle.hm_thumb.specs.Does.{in_machine}
-use Rattle.hm_handlers.proofs.Priorities.{start-levels, step-levels}
-use Rattle.hm_handlers.proofs.kept.priorities_keep.Goals as goal
-
-pub returns : goal.returns
-returns c = record { start = start-levels; kept = λ x. step-levels (in_machine x) }

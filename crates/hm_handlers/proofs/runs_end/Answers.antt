@@ -1,9 +1,0 @@
-use Rattle.hm_handlers.proofs.Ends.{all_ended, ended_stays, run_past}
-use Rattle.hm_handlers.proofs.runs_end.Goals as goal
-
-pub returns : goal.returns
-returns c = record {
-  ends = λ listing image s. all_ended listing s image;
-  stays = λ listing image s. ended_stays listing s image;
-  past = λ listing image s. run_past listing s image;
-}

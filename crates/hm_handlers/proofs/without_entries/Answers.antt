@@ -1,5 +1,0 @@
-use Rattle.hm_handlers.proofs.Quiet.{run_still}
-use Rattle.hm_handlers.proofs.without_entries.Goals as goal
-
-pub returns : goal.returns
-returns c = record { none = run_still }

@@ -1,2 +1,0 @@
-pub mod SameImage
-pub mod HexRuns

@@ -1,9 +1,0 @@
-pub mod Breakpoints
-pub mod Vectors
-pub mod Wholes
-pub mod Orders
-pub mod Laws
-pub mod Sequence
-pub mod Readings
-pub mod Ticks
-pub mod Halts

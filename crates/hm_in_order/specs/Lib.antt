@@ -1,4 +1,0 @@
-pub mod Sequence
-pub mod Readings
-pub mod Orders
-pub mod Overlap
