@@ -63,17 +63,10 @@ fn decode_v24(w: u32) -> Option<V24>
     let d = q_register(w, 13);
     let z = size_at(w, 7)?;
     let i = Below::new(bits(w, 0, 7));
-    let base = w
-        - place_index(index.p, index.a, index.w)
-        - (l.get() << 20)
-        - (n.get() << 16)
-        - (d.get() << 13)
-        - (z.get() << 7)
-        - i.get();
-    if base != 0xec00_1e00 || !may_be_contiguous(index.p, index.w, n) {
+    if !may_be_contiguous(index.p, index.w, n) {
         return None;
     }
-    Some(V24 {
+    let r = V24 {
         p: index.p,
         a: index.a,
         w: index.w,
@@ -82,7 +75,11 @@ fn decode_v24(w: u32) -> Option<V24>
         d,
         z,
         i,
-    })
+    };
+    if encode_v24(&r) != w {
+        return None;
+    }
+    Some(r)
 }
 
 /// The code of `vldrb`, `vldrh`, `vldrw`, `vstrb`, `vstrh` or `vstrw` of elements one after another, with the first halfword in bits 31 to 16.
@@ -118,19 +115,10 @@ fn decode_v25(w: u32) -> Option<V25>
     let d = q_register(w, 13);
     let z = size_at(w, 7)?;
     let i = Below::new(bits(w, 0, 7));
-    let base = w
-        - (u.get() << 28)
-        - place_index(index.p, index.a, index.w)
-        - (l.get() << 20)
-        - (h.get() << 19)
-        - (n.get() << 16)
-        - (d.get() << 13)
-        - (z.get() << 7)
-        - i.get();
-    if base != 0xec00_0e00 || !may_be_widening(u, index.p, index.w, l, h, z) {
+    if !may_be_widening(u, index.p, index.w, l, h, z) {
         return None;
     }
-    Some(V25 {
+    let r = V25 {
         u,
         p: index.p,
         a: index.a,
@@ -141,7 +129,11 @@ fn decode_v25(w: u32) -> Option<V25>
         d,
         z,
         i,
-    })
+    };
+    if encode_v25(&r) != w {
+        return None;
+    }
+    Some(r)
 }
 
 /// The code of `vldrb`, `vldrh`, `vstrb` or `vstrh` of narrower elements in memory, with the first halfword in bits 31 to 16.
@@ -209,25 +201,13 @@ fn decode_v26(w: u32) -> Option<V26>
     let y = memory_size(w)?;
     let m = q_register(w, 1);
     let o = bit(w, 0);
-    let base = w
-        - (u.get() << 28)
-        - (l.get() << 20)
-        - (n.get() << 16)
-        - (d.get() << 13)
-        - (z.get() << 7)
-        - place_memory_size(y)
-        - (m.get() << 1)
-        - o.get();
-    if base != 0xec80_0e00 {
-        return None;
-    }
     if !may_be_at_offsets(n, z, y, o) {
         return None;
     }
     if !may_be_access(u, l, d, z, y, m) {
         return None;
     }
-    Some(V26 {
+    let r = V26 {
         u,
         l,
         n,
@@ -236,7 +216,11 @@ fn decode_v26(w: u32) -> Option<V26>
         y,
         m,
         o,
-    })
+    };
+    if encode_v26(&r) != w {
+        return None;
+    }
+    Some(r)
 }
 
 /// The code of `vldrb`, `vldrh`, `vldrw`, `vstrb`, `vstrh` or `vstrw` at offsets in a vector, with the first halfword in bits 31 to 16.
@@ -272,24 +256,21 @@ fn decode_v27(w: u32) -> Option<V27>
     let m = q_register(w, 17);
     let d = q_register(w, 13);
     let i = Below::new(bits(w, 0, 7));
-    let base = w
-        - (a.get() << 23)
-        - (back.get() << 21)
-        - (l.get() << 20)
-        - (m.get() << 17)
-        - (d.get() << 13)
-        - i.get();
-    if base != 0xfd00_1e00 || !may_be_at_addresses(l, m, d) {
+    if !may_be_at_addresses(l, m, d) {
         return None;
     }
-    Some(V27 {
+    let r = V27 {
         a,
         w: back,
         l,
         m,
         d,
         i,
-    })
+    };
+    if encode_v27(&r) != w {
+        return None;
+    }
+    Some(r)
 }
 
 /// The code of `vldrw.u32`, `vstrw.32` at addresses in a vector, with the first halfword in bits 31 to 16.
@@ -331,18 +312,10 @@ fn decode_v28(w: u32) -> Option<V28>
     let z = size_at(w, 7)?;
     let p = Below::new(bits(w, 5, 2));
     let f = bit(w, 0);
-    let base = w
-        - (back.get() << 21)
-        - (l.get() << 20)
-        - (n.get() << 16)
-        - (d.get() << 13)
-        - (z.get() << 7)
-        - (p.get() << 5)
-        - f.get();
-    if base != 0xfc80_1e00 || !may_be_interleaved(n, d, p, f) {
+    if !may_be_interleaved(n, d, p, f) {
         return None;
     }
-    Some(V28 {
+    let r = V28 {
         w: back,
         l,
         n,
@@ -350,7 +323,11 @@ fn decode_v28(w: u32) -> Option<V28>
         z,
         p,
         f,
-    })
+    };
+    if encode_v28(&r) != w {
+        return None;
+    }
+    Some(r)
 }
 
 /// The code of `vld20`, `vld21`, `vld40`, `vld41`, `vld42`, `vld43`, `vst20`, `vst21`, `vst40`, `vst41`, `vst42` or `vst43`, with the

@@ -25,19 +25,12 @@ fn decode_compare_vectors(w: u32) -> Option<CompareVectors>
     let middle = bits(w, 0, 1);
     let low = bits(w, 7, 1);
     let m = q_register(w, 1);
-    let base = w
-        - place_mask(k)
-        - (z.get() << 20)
-        - (n.get() << 17)
-        - (high << 12)
-        - (low << 7)
-        - (m.get() << 1)
-        - middle;
-    if base != 0xfe01_0f00 {
+    let c = Below::new(high * 4 + middle * 2 + low);
+    let r = CompareVectors { k, z, n, c, m };
+    if encode_compare_vectors(&r) != w {
         return None;
     }
-    let c = Below::new(high * 4 + middle * 2 + low);
-    Some(CompareVectors { k, z, n, c, m })
+    Some(r)
 }
 
 /// `vcmp` and `vpt` of two vectors
@@ -66,20 +59,16 @@ fn decode_compare_scalar(w: u32) -> Option<CompareScalar>
     let middle = bits(w, 5, 1);
     let low = bits(w, 7, 1);
     let m = bits(w, 0, 4);
-    let base = w
-        - place_mask(k)
-        - (z.get() << 20)
-        - (n.get() << 17)
-        - (high << 12)
-        - (low << 7)
-        - (middle << 5)
-        - m;
-    if base != 0xfe01_0f40 || m == 13 {
+    if m == 13 {
         return None;
     }
     let c = Below::new(high * 4 + middle * 2 + low);
     let m = Below::new(m);
-    Some(CompareScalar { k, z, n, c, m })
+    let r = CompareScalar { k, z, n, c, m };
+    if encode_compare_scalar(&r) != w {
+        return None;
+    }
+    Some(r)
 }
 
 /// `vcmp` and `vpt` of a vector and a core register or zero

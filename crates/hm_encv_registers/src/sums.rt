@@ -24,16 +24,11 @@ fn decode_sum(w: u32) -> Option<Sum>
     let l = Below::new(bits(w, 13, 3));
     let a = bit(w, 5);
     let m = q_register(w, 1);
-    let base = w
-        - (u.get() << 28)
-        - (z.get() << 18)
-        - (l.get() << 13)
-        - (a.get() << 5)
-        - (m.get() << 1);
-    if base != 0xeef1_0f00 {
+    let r = Sum { u, z, l, a, m };
+    if encode_sum(&r) != w {
         return None;
     }
-    Some(Sum { u, z, l, a, m })
+    Some(r)
 }
 
 /// `vaddv` or `vaddva`
@@ -117,16 +112,11 @@ fn decode_long_sum(w: u32) -> Option<LongSum>
     let l = Below::new(bits(w, 13, 3));
     let a = bit(w, 5);
     let m = q_register(w, 1);
-    let base = w
-        - (u.get() << 28)
-        - (h.get() << 20)
-        - (l.get() << 13)
-        - (a.get() << 5)
-        - (m.get() << 1);
-    if base != 0xee89_0f00 {
+    let r = LongSum { u, h, l, a, m };
+    if encode_long_sum(&r) != w {
         return None;
     }
-    Some(LongSum { u, h, l, a, m })
+    Some(r)
 }
 
 /// `vaddlv` or `vaddlva`
@@ -153,18 +143,7 @@ fn decode_long_dot(w: u32) -> Option<LongDot>
     let l = Below::new(bits(w, 13, 3));
     let a = bit(w, 5);
     let m = q_register(w, 1);
-    let base = w
-        - (u.get() << 28)
-        - (h.get() << 20)
-        - (n.get() << 17)
-        - (s.get() << 16)
-        - (l.get() << 13)
-        - (a.get() << 5)
-        - (m.get() << 1);
-    if base != 0xee80_0e00 {
-        return None;
-    }
-    Some(LongDot {
+    let r = LongDot {
         u,
         h,
         n,
@@ -172,7 +151,11 @@ fn decode_long_dot(w: u32) -> Option<LongDot>
         l,
         a,
         m,
-    })
+    };
+    if encode_long_dot(&r) != w {
+        return None;
+    }
+    Some(r)
 }
 
 /// `vmlaldav` or `vmlaldava`

@@ -34,16 +34,11 @@ fn decode_long_bytes(w: u32) -> Option<LongBytes>
     let t = bit(w, 12);
     let d = q_register(w, 13);
     let m = q_register(w, 1);
-    let base = w
-        - (u.get() << 28)
-        - (k.get() << 16)
-        - (t.get() << 12)
-        - (d.get() << 13)
-        - (m.get() << 1);
-    if base != 0xeea8_0f40 {
+    let r = LongBytes { u, k, t, d, m };
+    if encode_long_bytes(&r) != w {
         return None;
     }
-    Some(LongBytes { u, k, t, d, m })
+    Some(r)
 }
 
 /// `vshllb`, `vshllt` of 8 bits by less than 8
@@ -68,16 +63,11 @@ fn decode_long_halves(w: u32) -> Option<LongHalves>
     let t = bit(w, 12);
     let d = q_register(w, 13);
     let m = q_register(w, 1);
-    let base = w
-        - (u.get() << 28)
-        - (k.get() << 16)
-        - (t.get() << 12)
-        - (d.get() << 13)
-        - (m.get() << 1);
-    if base != 0xeeb0_0f40 {
+    let r = LongHalves { u, k, t, d, m };
+    if encode_long_halves(&r) != w {
         return None;
     }
-    Some(LongHalves { u, k, t, d, m })
+    Some(r)
 }
 
 /// `vshllb`, `vshllt` of 16 bits by less than 16
@@ -102,16 +92,11 @@ fn decode_long_full(w: u32) -> Option<LongFull>
     let t = bit(w, 12);
     let d = q_register(w, 13);
     let m = q_register(w, 1);
-    let base = w
-        - (u.get() << 28)
-        - (z.get() << 18)
-        - (t.get() << 12)
-        - (d.get() << 13)
-        - (m.get() << 1);
-    if base != 0xee31_0e01 {
+    let r = LongFull { u, z, t, d, m };
+    if encode_long_full(&r) != w {
         return None;
     }
-    Some(LongFull { u, z, t, d, m })
+    Some(r)
 }
 
 /// `vshllb`, `vshllt` by the size of the elements
@@ -308,24 +293,18 @@ fn decode_v15(w: u32) -> Option<V15>
     let cm = Below::of(bits(w, 8, 4))?;
     let op = bit(w, 5);
     let i4 = Below::new(bits(w, 0, 4));
-    let base = w
-        - (i.get() << 28)
-        - (i3.get() << 16)
-        - (d.get() << 13)
-        - (cm.get() << 8)
-        - (op.get() << 5)
-        - i4.get();
-    if base != 0xef80_0050 {
-        return None;
-    }
-    Some(V15 {
+    let r = V15 {
         i,
         i3,
         d,
         cm,
         op,
         i4,
-    })
+    };
+    if encode_v15(&r) != w {
+        return None;
+    }
+    Some(r)
 }
 
 /// The code of `vmov`, `vmvn`, `vorr`, `vbic` with an immediate, with the first halfword in bits 31 to 16.

@@ -298,11 +298,14 @@ fn decode_v6(w: u32) -> Option<V6>
     let n = q_register(w, 17);
     let d = q_register(w, 13);
     let m = q_register(w, 1);
-    let base = w - (u.get() << 28) - (z.get() << 20) - (t.get() << 12) - place_registers(n, d, m);
-    if base != 0xee01_0e00 || !may_widen(z, d, n, m) {
+    if !may_widen(z, d, n, m) {
         return None;
     }
-    Some(V6 { u, z, t, n, d, m })
+    let r = V6 { u, z, t, n, d, m };
+    if encode_v6(&r) != w {
+        return None;
+    }
+    Some(r)
 }
 
 /// The code of `vmullb`, `vmullt`, with the first halfword in bits 31 to 16.
