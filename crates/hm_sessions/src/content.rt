@@ -52,6 +52,45 @@ fn repeated_bytes(alloc: Global, named: &[Named], text: &str) -> Result<Vec<u8>>
     Ok(bytes)
 }
 
+/// The bytes that a line has itself; None where it is no such line.
+fn own_content(alloc: Global, word: &str, text: &str) -> Result<Option<Vec<u8>>> {
+    let bytes = match word {
+        "|" => line_bytes(alloc, text)?,
+        "text" => text.as_bytes().to_vec(alloc)?,
+        "hex" => hex_bytes(alloc, text)?,
+        "zeros" => vec![in alloc; 0; read_number(Some(text))?]?,
+        _ => return Ok(None),
+    };
+    Ok(Some(bytes))
+}
+
+/// The bytes that a line makes of those of a name; None where it is no such line.
+fn named_content(
+    alloc: Global,
+    named: &[Named],
+    word: &str,
+    text: &str,
+) -> Result<Option<Vec<u8>>> {
+    let bytes = match word {
+        "add" => find(named, text)?.to_vec(alloc)?,
+        "front" => front_bytes(alloc, named, text)?,
+        "times" => repeated_bytes(alloc, named, text)?,
+        "behind" => other_bytes(alloc, named, text)?,
+        _ => return Ok(None),
+    };
+    Ok(Some(bytes))
+}
+
+/// The bytes that a host has; None where a line asks for none.
+fn host_content(alloc: Global, host: &MemHost, word: &str, text: &str) -> Result<Option<Vec<u8>>> {
+    let bytes = match word {
+        "written" => host.file(text).context("no such file")?,
+        "printed" => host.printed(),
+        _ => return Ok(None),
+    };
+    Ok(Some(bytes.to_vec(alloc)?))
+}
+
 /// The bytes that a line says by its first word and the text behind it; None where it is no such line.
 pub fn content(
     alloc: Global,
@@ -60,20 +99,13 @@ pub fn content(
     word: &str,
     text: &str,
 ) -> Result<Option<Vec<u8>>> {
-    let bytes = match word {
-        "|" => line_bytes(alloc, text)?,
-        "text" => text.as_bytes().to_vec(alloc)?,
-        "hex" => hex_bytes(alloc, text)?,
-        "zeros" => vec![in alloc; 0; read_number(Some(text))?]?,
-        "add" => find(named, text)?.to_vec(alloc)?,
-        "front" => front_bytes(alloc, named, text)?,
-        "times" => repeated_bytes(alloc, named, text)?,
-        "behind" => other_bytes(alloc, named, text)?,
-        "written" => host.file(text).context("no such file")?.to_vec(alloc)?,
-        "printed" => host.printed().to_vec(alloc)?,
-        _ => return Ok(None),
-    };
-    Ok(Some(bytes))
+    if let Some(bytes) = own_content(alloc, word, text)? {
+        return Ok(Some(bytes));
+    }
+    if let Some(bytes) = host_content(alloc, host, word, text)? {
+        return Ok(Some(bytes));
+    }
+    named_content(alloc, named, word, text)
 }
 
 /// Puts a byte in the place of another: where it stands, and the byte.

@@ -84,6 +84,28 @@ fn memory_text(alloc: Global, machine: &Machine, addresses: Range<u32>) -> Resul
     Ok(hex::encode(alloc, bytes)?)
 }
 
+/// Writes the first lines of a machine's report.
+fn write_report<W: Write>(out: &mut W, alloc: Global, machine: &Machine) -> Result<()> {
+    let report = String::from_utf8(machine.report(alloc)?)?;
+    for line in report.lines().take(LINES) {
+        writeln!(out, "{line}")?;
+    }
+    Ok(())
+}
+
+/// Writes an address, and the bytes of a machine from there on.
+fn write_memory<W: Write>(
+    out: &mut W,
+    alloc: Global,
+    machine: &Machine,
+    addresses: Range<u32>,
+) -> Result<()> {
+    let start = addresses.start;
+    let bytes = memory_text(alloc, machine, addresses)?;
+    writeln!(out, "{start:08x} {bytes}")?;
+    Ok(())
+}
+
 /// Writes the name of an example, and what its machine shows.
 fn write_example<W: Write>(
     out: &mut W,
@@ -92,15 +114,9 @@ fn write_example<W: Write>(
     machine: &Machine,
 ) -> Result<()> {
     writeln!(out, "{name}")?;
-    let report = String::from_utf8(machine.report(alloc)?)?;
-    for line in report.lines().take(LINES) {
-        writeln!(out, "{line}")?;
-    }
-    let copied = memory_text(alloc, machine, COPIED)?;
-    writeln!(out, "20000000 {copied}")?;
-    let counted = memory_text(alloc, machine, COUNTED)?;
-    writeln!(out, "20001000 {counted}")?;
-    Ok(())
+    write_report(out, alloc, machine)?;
+    write_memory(out, alloc, machine, COPIED)?;
+    write_memory(out, alloc, machine, COUNTED)
 }
 
 /// Writes the plan of so many instructions of an example, and rows of its page.
@@ -137,21 +153,40 @@ fn asked(word: &str) -> Result<(&str, Option<u32>)> {
     }
 }
 
-/// Takes the example that is named: it is run, and behind a number and a colon it is shaken in so many runs. Behind `soak:` stands which soak is run.
-pub fn write_word<W: Write>(out: &mut W, rt: &HostRuntime, word: &str) -> Result<()> {
-    let alloc = rt.alloc();
-    if let Some(soak) = word.strip_prefix("soak:") {
-        return write_soak(out, alloc, soak);
+/// Runs or shakes the image of a source under a schedule.
+fn write_image<W: Write>(
+    out: &mut W,
+    alloc: Global,
+    name: &str,
+    runs: Option<u32>,
+    source: &[u8],
+    schedule: &[u8],
+) -> Result<()> {
+    let image = image_of(alloc, source).context(format_args!("{name}"))?;
+    match runs {
+        Some(runs) => write_shake(out, alloc, name, &image, schedule, runs),
+        None => write_run(out, alloc, name, &image, schedule),
     }
-    let (name, runs) = asked(word)?;
+}
+
+/// Reads the files of an example, and runs or shakes it.
+fn write_named_example<W: Write>(
+    out: &mut W,
+    rt: &HostRuntime,
+    name: &str,
+    runs: Option<u32>,
+) -> Result<()> {
+    let alloc = rt.alloc();
     let source = fs::read(rt, &format!(in alloc; "{name}.s")?)?;
     let schedule = fs::read(rt, &format!(in alloc; "{name}.sched")?)?;
-    let image = image_of(alloc, &source).context(format_args!("{name}"))?;
-    match runs {
-        Some(runs) => {
-            let schedule = parse(alloc, &schedule)?;
-            write_shake(out, alloc, name, &image, &schedule, runs)
-        }
-        None => write_run(out, alloc, name, &image, &schedule),
+    write_image(out, alloc, name, runs, &source, &schedule)
+}
+
+/// Takes the example that is named: it is run, and behind a number and a colon it is shaken in so many runs. Behind `soak:` stands which soak is run.
+pub fn write_word<W: Write>(out: &mut W, rt: &HostRuntime, word: &str) -> Result<()> {
+    if let Some(soak) = word.strip_prefix("soak:") {
+        return write_soak(out, rt.alloc(), soak);
     }
+    let (name, runs) = asked(word)?;
+    write_named_example(out, rt, name, runs)
 }

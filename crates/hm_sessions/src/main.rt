@@ -64,20 +64,25 @@ fn write_file<W: Write>(out: &mut W, session: &mut Session, name: &str, text: &s
     Ok(())
 }
 
-/// Takes a file, by the folder that it stands in.
-fn write_named<W: Write>(out: &mut W, rt: &HostRuntime, name: &str) -> Result<()> {
+/// Takes the text of a file, by the folder that it stands in.
+fn write_text<W: Write>(out: &mut W, rt: &HostRuntime, name: &str, text: &str) -> Result<()> {
     let alloc = rt.alloc();
-    let text = fs::read_to_string(rt, name)?;
     match name.split_once('/') {
-        Some(("formats", _)) => write_cases(out, alloc, name, &text),
-        Some(("instructions", _)) => write_instructions(out, alloc, name, &text),
-        Some(("worked", _)) => write_answers(out, alloc, name, &text),
-        Some(("outside", _)) => write_vectors(out, alloc, name, &text),
+        Some(("formats", _)) => write_cases(out, alloc, name, text),
+        Some(("instructions", _)) => write_instructions(out, alloc, name, text),
+        Some(("worked", _)) => write_answers(out, alloc, name, text),
+        Some(("outside", _)) => write_vectors(out, alloc, name, text),
         _ => {
             let mut session = Session::new(alloc, OsHost::new(rt.clone()?));
-            write_file(out, &mut session, name, &text)
+            write_file(out, &mut session, name, text)
         }
     }
+}
+
+/// Takes a file.
+fn write_named<W: Write>(out: &mut W, rt: &HostRuntime, name: &str) -> Result<()> {
+    let text = fs::read_to_string(rt, name)?;
+    write_text(out, rt, name, &text)
 }
 
 /// Takes the words: one that ends in `.txt` names a file, any other an example.

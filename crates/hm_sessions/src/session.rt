@@ -1,7 +1,7 @@
 //! What the lines of a file give, do and say.
 
 use crate::content::{content, put};
-use crate::cut::{each_call_fails, host_of, words_of};
+use crate::cut::{CommandLine, each_call_fails, host_of, words_of};
 use crate::named::{Named, find, read_number};
 use crate::trial::Trial;
 use anyhow::{Context, Result, bail, ensure};
@@ -65,6 +65,11 @@ fn answer_word(answer: Result<(), HostErr>) -> &'static str {
     }
 }
 
+/// The bytes that the next word names.
+fn next_bytes<'a>(named: &'a [Named], words: &mut SplitWhitespace<'_>) -> Result<&'a [u8]> {
+    find(named, words.next().context("bytes are wanted")?)
+}
+
 /// Whether a host reads these bytes, or answers so.
 fn reads<H: Host>(
     alloc: Global,
@@ -79,11 +84,24 @@ fn reads<H: Host>(
             if told != "ok" {
                 return Ok(false);
             }
-            let expected = find(named, words.next().context("bytes are wanted")?)?;
+            let expected = next_bytes(named, words)?;
             Ok(bytes.as_slice() == expected)
         }
         Err(e) => Ok(told == error_word(e)),
     }
+}
+
+/// Whether a host answers so where it is to write a file.
+fn writes<H: Host>(
+    alloc: Global,
+    host: &mut H,
+    named: &[Named],
+    told: &str,
+    words: &mut SplitWhitespace<'_>,
+) -> Result<bool> {
+    let name = words.next().context("a file is wanted")?;
+    let bytes = next_bytes(named, words)?;
+    Ok(told == answer_word(host.write(alloc, name, bytes)))
 }
 
 /// Makes a call on a host, and says whether it answers what the line says.
@@ -98,13 +116,9 @@ fn answers<H: Host>(
     let told = words.next().context("an answer is wanted")?;
     match call {
         "read" => reads(alloc, host, named, told, &mut words),
-        "write" => {
-            let name = words.next().context("a file is wanted")?;
-            let bytes = find(named, words.next().context("bytes are wanted")?)?;
-            Ok(told == answer_word(host.write(alloc, name, bytes)))
-        }
+        "write" => writes(alloc, host, named, told, &mut words),
         "print" => {
-            let bytes = find(named, words.next().context("bytes are wanted")?)?;
+            let bytes = next_bytes(named, &mut words)?;
             Ok(told == answer_word(host.print(alloc, bytes)))
         }
         _ => bail!("no such call: {call}"),
@@ -122,6 +136,13 @@ fn stands_at(bytes: &[u8], at: usize, part: &[u8]) -> bool {
         Some(others) => others.starts_with(part),
         None => false,
     }
+}
+
+/// Whether the bytes that the words name stand in these, from the index on that they give.
+fn have_named_part(named: &[Named], bytes: &[u8], words: &mut SplitWhitespace<'_>) -> Result<bool> {
+    let at = read_number(words.next())?;
+    let expected = next_bytes(named, words)?;
+    Ok(stands_at(bytes, at, expected))
 }
 
 impl Session {
@@ -168,9 +189,13 @@ impl Session {
         let (head, line) = text.split_once(':').context("a command is wanted")?;
         let mut head = head.split_whitespace();
         let count = read_number(head.next())?;
-        let written = head.next().unwrap_or("");
         let words = words_of(self.alloc, line)?;
-        each_call_fails(self.alloc, &self.files, &words, count, written)
+        let command = CommandLine {
+            given: &self.files,
+            words: &words,
+            written: head.next().unwrap_or(""),
+        };
+        each_call_fails(self.alloc, command, count)
     }
 
     /// Whether the command line that is tried ends over each file of the line as it says.
@@ -194,15 +219,8 @@ impl Session {
         match fact {
             "absent" => Ok(false),
             "size" => Ok(bytes.len() == read_number(words.next())?),
-            "holds" => {
-                let expected = find(&self.named, words.next().context("bytes are wanted")?)?;
-                Ok(bytes == expected)
-            }
-            "part" => {
-                let at = read_number(words.next())?;
-                let expected = find(&self.named, words.next().context("bytes are wanted")?)?;
-                Ok(stands_at(bytes, at, expected))
-            }
+            "holds" => Ok(bytes == next_bytes(&self.named, &mut words)?),
+            "part" => have_named_part(&self.named, bytes, &mut words),
             _ => bail!("no such line: {fact}"),
         }
     }

@@ -148,8 +148,37 @@ fn counts_in_common(alloc: Global, one: &Findings, other: &Findings) -> Result<V
     Ok(counts)
 }
 
+/// Writes how often each kind of outcome came in a shake of so many runs, and shakes once more for the same.
+fn write_counts<W: Write>(
+    out: &mut W,
+    alloc: Global,
+    image: &Image,
+    schedule: &Schedule,
+    runs: u32,
+    found: &Findings,
+) -> Result<()> {
+    let again = told_shake(alloc, image, schedule, runs)?;
+    out.write_all(&counts_in_common(alloc, found, &again)?)?;
+    Ok(())
+}
+
+/// Writes the schedules that a shake found.
+fn write_schedules<W: Write>(
+    out: &mut W,
+    alloc: Global,
+    image: &Image,
+    schedule: &Schedule,
+    plan: Plan,
+    found: &Findings,
+) -> Result<()> {
+    for written in &found.files {
+        write_found(out, alloc, image, schedule, plan, &found.kinds, written)?;
+    }
+    Ok(())
+}
+
 /// Writes the name of an example, how often each kind of outcome came in so many runs, and the schedules that were found, which come from a seed twice.
-pub fn write_shake<W: Write>(
+fn write_findings<W: Write>(
     out: &mut W,
     alloc: Global,
     name: &str,
@@ -160,10 +189,19 @@ pub fn write_shake<W: Write>(
     let plan = plan_of(alloc, image, schedule, runs)?;
     writeln!(out, "shake {name} {runs}")?;
     let found = told_shake(alloc, image, schedule, runs)?;
-    let again = told_shake(alloc, image, schedule, runs)?;
-    out.write_all(&counts_in_common(alloc, &found, &again)?)?;
-    for written in &found.files {
-        write_found(out, alloc, image, schedule, plan, &found.kinds, written)?;
-    }
-    Ok(())
+    write_counts(out, alloc, image, schedule, runs, &found)?;
+    write_schedules(out, alloc, image, schedule, plan, &found)
+}
+
+/// Writes what a shake of an example in so many runs finds. Of the schedule's file its head and the interrupts are taken.
+pub fn write_shake<W: Write>(
+    out: &mut W,
+    alloc: Global,
+    name: &str,
+    image: &Image,
+    file: &[u8],
+    runs: u32,
+) -> Result<()> {
+    let schedule = parse(alloc, file)?;
+    write_findings(out, alloc, name, image, &schedule, runs)
 }

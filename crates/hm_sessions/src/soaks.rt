@@ -112,16 +112,22 @@ fn write_last<W: Write>(
     Ok(())
 }
 
+/// The number of a soak, and behind a colon how often it is run.
+fn numbers_of(text: &str) -> Result<(u32, u32)> {
+    let (number, times) = text.split_once(':').context("how often is wanted")?;
+    let number = number.parse::<u32>().context("no number")?;
+    let times = times.parse::<u32>().context("no number")?;
+    Ok((number, times))
+}
+
 /// Does as many runs as are asked for, and writes what the last one did: overlapped, plain or planned, the number, how many, with colons between. Of a
 /// plan it writes first how dense it is.
 pub fn write_soak<W: Write>(out: &mut W, alloc: Global, asked: &str) -> Result<()> {
     let (ticks, numbers) = asked.split_once(':').context("a number is wanted")?;
-    let (chosen, times) = numbers.split_once(':').context("how often is wanted")?;
     let ticks = ticks_of(ticks)?;
-    let chosen = chosen.parse::<u32>().context("no number")?;
-    let times = times.parse::<u32>().context("no number")?;
+    let (number, times) = numbers_of(numbers)?;
     if let Ticks::Planned = ticks {
-        writeln!(out, "{}", density_text(alloc, chosen)?)?;
+        writeln!(out, "{}", density_text(alloc, number)?)?;
     }
-    write_last(out, alloc, chosen, ticks, times)
+    write_last(out, alloc, number, ticks, times)
 }

@@ -37,6 +37,23 @@ impl<'a> End<'a> {
     }
 }
 
+/// A byte that is put in the place of another, and how the command line is to end then.
+#[derive(Clone, Copy)]
+struct Put<'a> {
+    byte: u8,
+    end: End<'a>,
+}
+
+impl<'a> Put<'a> {
+    /// From a byte, a status and a line.
+    fn parse(text: &'a str) -> Result<Put<'a>> {
+        let (digits, text) = text.split_once(' ').context("a byte is wanted")?;
+        let byte = u8::from_str_radix(digits, 16).context("no byte")?;
+        let end = End::parse(text)?;
+        Ok(Put { byte, end })
+    }
+}
+
 /// A command line, the file that is tried, and the name of its bytes.
 #[derive(Drop)]
 pub struct Trial {
@@ -77,14 +94,51 @@ impl Trial {
         status != Status::Refused || is_line && stays
     }
 
-    /// Whether the command line ends over these bytes with this status, and leaves its host as `is_left` says.
-    fn ends(&self, alloc: Global, given: &[Named], bytes: &[u8], end: End<'_>) -> Result<bool> {
+    /// Whether the command line ends on a host with this status and this line. `before` is another host, with the same files.
+    fn ends_on(
+        &self,
+        alloc: Global,
+        before: &MemHost,
+        host: &mut MemHost,
+        status: usize,
+        line: &[u8],
+    ) -> bool {
+        let ended = helium(alloc, &self.words, host);
+        ended.code() as usize == status && self.is_left(before, host, ended, line)
+    }
+
+    /// Whether the command line ends over these bytes on a new host with this status and this line.
+    fn ends_with(
+        &self,
+        alloc: Global,
+        given: &[Named],
+        bytes: &[u8],
+        status: usize,
+        line: &[u8],
+    ) -> Result<bool> {
         let before = self.host(alloc, given, bytes)?;
         let mut host = self.host(alloc, given, bytes)?;
-        let status = helium(alloc, &self.words, &mut host);
+        Ok(self.ends_on(alloc, &before, &mut host, status, line))
+    }
+
+    /// Whether the command line ends over these bytes as an end says.
+    fn ends(&self, alloc: Global, given: &[Named], bytes: &[u8], end: End<'_>) -> Result<bool> {
         let line = end.line_of(alloc, bytes.len())?;
-        let is_left = self.is_left(&before, &host, status, line.as_bytes());
-        Ok(is_left && status.code() as usize == end.status)
+        self.ends_with(alloc, given, bytes, end.status, line.as_bytes())
+    }
+
+    /// Whether the command line ends so over these bytes with another in the place of one.
+    fn ends_on_put(
+        &self,
+        alloc: Global,
+        given: &[Named],
+        bytes: &[u8],
+        at: usize,
+        put: Put<'_>,
+    ) -> Result<bool> {
+        let mut changed = bytes.to_vec(alloc)?;
+        *changed.get_mut(at).context("no such place")? = put.byte;
+        self.ends(alloc, given, &changed, put.end)
     }
 
     /// Whether the command line ends so over these bytes.
@@ -129,13 +183,9 @@ impl Trial {
     ) -> Result<bool> {
         let (from, text) = numbered(text)?;
         let (to, text) = numbered(text)?;
-        let (digits, text) = text.split_once(' ').context("a byte is wanted")?;
-        let byte = u8::from_str_radix(digits, 16).context("no byte")?;
-        let end = End::parse(text)?;
+        let put = Put::parse(text)?;
         for at in from..=to {
-            let mut changed = bytes.to_vec(alloc)?;
-            *changed.get_mut(at).context("no such place")? = byte;
-            if !self.ends(alloc, given, &changed, end)? {
+            if !self.ends_on_put(alloc, given, bytes, at, put)? {
                 return Ok(false);
             }
         }
