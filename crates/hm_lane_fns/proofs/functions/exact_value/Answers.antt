@@ -1,4 +1,5 @@
-use Rattle.std.proofs.Common.{rules, refl, ◌≡◌, ◌⊎◌, inl, inr, ℤ, pos, ◌≤ℤ◌, ◌<ℤ◌, ◌+ℤ◌, ◌-ℤ◌, FitsSigned, w64, to_z, of_z, false, arith, subst, sym, ap, ◌∙◌}
+use Rattle.std.proofs.Common.{rules, refl, ◌≡◌, ◌⊎◌, inl, inr, ℤ, pos, ◌≤ℤ◌, ◌<ℤ◌, ◌+ℤ◌, ◌-ℤ◌, FitsSigned, w64, to_z, of_z, true, false, arith}
+use Rattle.std.proofs.Common.{subst, sym, ap, ◌∙◌}
 use Rattle.std.specs.Prelude.{nat_abs}
 use Rattle.std.proofs.lemmas.Int.{ints, to_z-of_z}
 use Rattle.hm_lane.specs.declared.lanes.Size.{Size}
@@ -79,3 +80,27 @@ returns-in-Rshl-clause-stand_in c =
     (shifts_nearest c.args.f c.args.z (lane_value c.args.u c.args.z c.args.o) c.args.a c.args.b c.in-Rshl.is)
     (by_count shifted_rounded u c.args.z c.shifted_rounded.result c.args.a c.args.b c.shift_count-in-Rshl.result fits c.ranges.a c.ranges.b count
     c.shift_count-in-Rshl.ensures.value (c.shifted_rounded.ensures u c.args.z))
+
+-- a function that is none of these, and does not shift, makes no number
+not_made : (f : LaneFn) (z : Size) (c a b : ℤ) → shifts f ≡ false
+    → (f ≡ fn.Add → ⊥) → (f ≡ fn.Sub → ⊥) → (f ≡ fn.Mul → ⊥) → (f ≡ fn.Max → ⊥) → (f ≡ fn.Min → ⊥) → (f ≡ fn.Abd → ⊥) → (f ≡ fn.Hadd → ⊥)
+    → (f ≡ fn.Rhadd → ⊥) → (f ≡ fn.Hsub → ⊥) → (f ≡ fn.Qadd → ⊥) → (f ≡ fn.Qsub → ⊥) → (f ≡ fn.Qdmulh → ⊥) → (f ≡ fn.Qrdmulh → ⊥) → (f ≡ fn.Mla → ⊥)
+    → (f ≡ fn.Mlas → ⊥) → (f ≡ fn.High → ⊥) → (f ≡ fn.RoundHigh → ⊥) → (f ≡ fn.Abs → ⊥) → (f ≡ fn.Neg → ⊥) → (f ≡ fn.Qabs → ⊥) → (f ≡ fn.Qneg → ⊥)
+    → (f ≡ fn.Dup → ⊥)
+    → pos 0 ≡ exact f z c a b
+not_made f z c a b h n0 n1 n2 n3 n4 n5 n6 n7 n8 n9 n10 n11 n12 n13 n14 n15 n16 n17 n18 n19 n20 n21 = grind arith
+
+pub returns-in_default-clause-value : goal.returns-in_default-clause-value
+returns-in_default-clause-value c = λ s.
+    let n = c.in_default in
+    not_made c.args.f c.args.z (lane_value c.args.u c.args.z c.args.o) c.args.a c.args.b s
+    n.not-Add n.not-Sub n.not-Mul n.not-Max n.not-Min n.not-Abd n.not-Hadd n.not-Rhadd n.not-Hsub n.not-Qadd n.not-Qsub n.not-Qdmulh n.not-Qrdmulh
+    n.not-Mla n.not-Mlas n.not-High n.not-RoundHigh n.not-Abs n.not-Neg n.not-Qabs n.not-Qneg n.not-Dup
+
+-- and one that is none of these does not shift
+not_shifted : (f : LaneFn) → (f ≡ fn.Shl → ⊥) → (f ≡ fn.Rshl → ⊥) → (f ≡ fn.Qshl → ⊥) → (f ≡ fn.Qshlu → ⊥) → (f ≡ fn.Qrshl → ⊥) → shifts f ≡ true → ⊥
+not_shifted f a b c d e h = grind arith
+
+pub returns-in_default-clause-stand_in : goal.returns-in_default-clause-stand_in
+returns-in_default-clause-stand_in c = λ u s.
+    let n = c.in_default in absurd (not_shifted c.args.f n.not-Shl n.not-Rshl n.not-Qshl n.not-Qshlu n.not-Qrshl s)
