@@ -49,7 +49,6 @@ fn keeps_places_in_order(rt: HostRuntime) {
         Place::Mask01,
     ];
     assert_eq!(rt; noted, in_order);
-    assert!(rt; Place::Sticky.is(Place::Sticky));
     assert_eq!(rt; Place::Sticky.rank(), 55);
 }
 
