@@ -13,9 +13,9 @@ ghost use Rattle.hm_mem.specs.declared.Actor.{Actor};
 ghost use Rattle.hm_sys.specs.Exceptions.{IsException, accepted, end_number};
 
 use crate::frame::{activation, frame_size, main_after, process_after};
-use crate::memory::{is_vector, lies_in_sram, word};
+use crate::memory::{is_vector, word};
 use crate::types::{Activation, Acts, EnterErr};
-use hm_mem::{Access, Actor, Dev, Mem};
+use hm_mem::{Access, Actor, Dev, Mem, lies_in_sram};
 use hm_regs::Regs;
 use hm_sys::accept;
 use hm_window::Window;

@@ -4,34 +4,15 @@ ghost use Rattle.std.specs.Prelude.{◌≡◌, ◌+◌, ◌-◌, ◌*◌, ◌^�
 ghost use Rattle.hm_base.specs.Image.{word_at};
 ghost use Rattle.hm_exc.specs.Frame.{is_vector};
 ghost use Rattle.hm_mem.specs.Memory.{byte_at, memory_of};
-ghost use Rattle.hm_mem.specs.Seen.{lies_in_memory, lies_in_sram};
+ghost use Rattle.hm_mem.specs.Seen.{lies_in_memory};
 
-use hm_base::{FLASH_SIZE, SRAM_SIZE, SRAM_START};
-use hm_mem::Mem;
+use hm_mem::{Mem, lies_in_memory};
 
 /// The byte at an address; 0 outside flash and SRAM.
 pub fn byte(m: &Mem, addr: u32) -> u8
     ensures value { result ≡ byte_at (memory_of m.now) addr }
 {
-    match m.byte(addr) {
-        Some(b) => b,
-        None => 0,
-    }
-}
-
-/// Whether so many bytes lie whole in SRAM.
-pub fn lies_in_sram(len: u32, addr: u32) -> bool
-    requires few { len ≤ 104 }
-    ensures value { result ≡ lies_in_sram len addr }
-{
-    SRAM_START <= addr && addr <= SRAM_START + SRAM_SIZE - len
-}
-
-/// Whether a word lies whole in flash or whole in SRAM.
-fn lies_in_memory(addr: u32) -> bool
-    ensures value { result ≡ lies_in_memory 4 addr }
-{
-    addr <= FLASH_SIZE - 4 || lies_in_sram(4, addr)
+    m.byte(addr).unwrap_or(0)
 }
 
 /// The little-endian word at an address; it lies whole in flash or whole in SRAM.
@@ -49,5 +30,5 @@ pub fn word(m: &Mem, addr: u32) -> u32
 pub fn is_vector(m: &Mem, addr: u32) -> bool
     ensures value { result ≡ is_vector (byte_at (memory_of m.now)) addr }
 {
-    lies_in_memory(addr) && word(m, addr) % 2 == 1
+    lies_in_memory(4, addr) && word(m, addr) % 2 == 1
 }
