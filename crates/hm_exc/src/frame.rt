@@ -43,8 +43,8 @@ fn progress(it: u8, w: Window) -> u32
     }
 }
 
-#[tactic(auto, unfolding(crate::specs::Frame::xpsr))]
 /// xPSR as it is stacked (DDI0553, "Combined Program Status Registers" and "Exception entry, context stacking").
+#[tactic(auto, unfolding(crate::specs::Frame::xpsr))]
 fn xpsr(r: &Regs, w: Window) -> u32
     requires state { CanEnter r.now w }
     ensures value { result ≡ xpsr r.now w }
