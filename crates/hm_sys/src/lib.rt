@@ -7,10 +7,7 @@ ghost use Rattle.std.specs.Prelude.{◌≡◌, ◌/◌, ◌%◌, ◌==◌, ◌||
 ghost use Rattle.hm_sys.specs.Ticks.{at_zero, counted, is_counting};
 
 pub use exceptions::{accept, arrive, arrive_all, candidate, priority};
-use hm_mem::Dev;
-
-/// COUNTFLAG of SYST_CSR: the timer came to 0 since it was last read.
-const COUNTFLAG: u32 = 1 << 16;
+use hm_mem::{COUNTFLAG, Dev};
 
 /// Whether SysTick counts: ENABLE of SYST_CSR.
 fn is_counting(d: &Dev) -> bool
