@@ -7,9 +7,13 @@ use hm_regs::Regs;
 /// What a handler has to leave as it was.
 #[derive(Clone, Copy, Debug, PartialEq, Eq)]
 pub enum Slot {
+    /// A general-purpose register or a word of a vector register.
     Reg(Place),
+    /// PRIMASK.PM.
     Primask,
+    /// PSP, the process stack pointer.
     Psp,
+    /// BASEPRI.PRI.
     Basepri,
 }
 
