@@ -17,7 +17,7 @@ use Rattle.hm_moves.proofs.Checked.{four_bytes, one_byte, two_bytes}
 use Rattle.hm_mem.proofs.Stops.{fault_free, neither_stops, no_word}
 use Rattle.hm_whole.specs.Whole.{seen_in}
 use Rattle.hm_mem.specs.Memory.{Around}
-use Rattle.hm_mem.specs.Seen.{fault_kind, is_denied, is_kept, is_thread, is_unaligned, lies_in_flash, lies_in_memory, some_byte, stop_after}
+use Rattle.hm_mem.specs.Seen.{fault_kind, is_barred, is_denied, is_thread, is_unaligned, lies_in_flash, lies_in_memory, some_byte, stop_after}
 use Rattle.hm_state.specs.State.{Byte, Cell, State, cells}
 use Rattle.hm_beat.specs.Trees.{Check, checked}
 use Rattle.hm_beat.specs.Touches.{span_bytes}
@@ -79,7 +79,7 @@ module _ (x : Around) (store : Bool) (y : Size) (s : State) (a : ℕ) where
   by_actor : (o : Option FaultKind) (who : Actor) → (o ≡ None → lies_in_memory (byte_count y) a ≡ true)
       → option_or (stop_after o (is_closed who x.bounds store (byte_count y) a) store a)
       (cond (is_thread who && not store && any_tainted (span_bytes a (byte_count y)) s) (Some (stop.Tainted a)) None)
-      ≡ stop_after o (is_kept who x.bounds store (byte_count y) a (seen_in s)) store a
+      ≡ stop_after o (is_barred who x.bounds store (byte_count y) a (seen_in s)) store a
   by_actor (Some k) who h = refl
   by_actor None Entry h = refl
   by_actor None (Handler f) h = or_none (stop_after None (store && is_denied x.bounds f (byte_count y) a) store a)

@@ -5,7 +5,7 @@ use Rattle.std.specs.Option.{option_or}
 use Rattle.hm_base.specs.declared.FaultKind.{FaultKind}
 use Rattle.hm_mem.specs.Devices.{device_word, in_devices}
 use Rattle.hm_mem.specs.Memory.{Around, Bounds}
-use Rattle.hm_mem.specs.Seen.{Seen, fault_kind, is_kept, is_thread, stop_after, stop_of}
+use Rattle.hm_mem.specs.Seen.{Seen, fault_kind, is_barred, is_thread, stop_after, stop_of}
 use Rattle.hm_mem.specs.declared.Access.{Access}
 use Rattle.hm_mem.specs.declared.Actor.{Actor}
 
@@ -19,27 +19,27 @@ pub no_word : (a : ℕ) → in_devices a ≡ false → device_word a ≡ None
 no_word a out = grind (arith, nat_tests, out)
 
 -- there is no fault
-pub no_fault : (k : Option FaultKind) (kept write : Bool) (a : ℕ) → stop_after k kept write a ≡ None → k ≡ None
+pub no_fault : (k : Option FaultKind) (barred write : Bool) (a : ℕ) → stop_after k barred write a ≡ None → k ≡ None
 no_fault (Some k) true write a h = cc
 no_fault (Some k) false write a h = cc
-no_fault None kept write a h = refl
+no_fault None barred write a h = refl
 
 pub fault_free : (x : Around) (how : Access) (write : Bool) (len a : ℕ) (s : Seen) → stop_of x how write len a s ≡ None
     → fault_kind (is_thread x.actor) how write len a ≡ None
-fault_free x how write len a s h = no_fault (fault_kind (is_thread x.actor) how write len a) (is_kept x.actor x.bounds write len a s) write a h
+fault_free x how write len a s h = no_fault (fault_kind (is_thread x.actor) how write len a) (is_barred x.actor x.bounds write len a s) write a h
 
--- nobody keeps the bytes
-pub kept_none : (k : Option FaultKind) (kept : Bool) (a : ℕ) → stop_after k kept true a ≡ None → kept ≡ false
-kept_none (Some k) kept a h = absurd cc
-kept_none None true a h = absurd cc
-kept_none None false a h = refl
+-- nobody is barred
+pub none_barred : (k : Option FaultKind) (barred : Bool) (a : ℕ) → stop_after k barred true a ≡ None → barred ≡ false
+none_barred (Some k) barred a h = absurd cc
+none_barred None true a h = absurd cc
+none_barred None false a h = refl
 
 -- what stops a store does not depend on what the memory holds
-kept_store : (x : Bounds) (who : Actor) (len a : ℕ) (s t : Seen) → is_kept who x true len a s ≡ is_kept who x true len a t
-kept_store x who len a s t = grind arith
+barred_store : (x : Bounds) (who : Actor) (len a : ℕ) (s t : Seen) → is_barred who x true len a s ≡ is_barred who x true len a t
+barred_store x who len a s t = grind arith
 
 pub stop_of-store : (x : Around) (how : Access) (len a : ℕ) (s t : Seen) → stop_of x how true len a s ≡ stop_of x how true len a t
-stop_of-store x how len a s t = rw (kept_store x.bounds x.actor len a s t) refl
+stop_of-store x how len a s t = rw (barred_store x.bounds x.actor len a s t) refl
 
 -- a store that does not stop does not stop in another memory either, if the same accesses it
 pub stop_of-elsewhere : (x y : Around) (how : Access) (len a : ℕ) (s t : Seen) → x ≡ y → stop_of y how true len a t ≡ None → stop_of x how true len a s ≡ None

@@ -13,7 +13,7 @@ use Rattle.hm_mem.specs.declared.Access.TheVariants.{Vector}
 use Rattle.hm_mem.specs.declared.Actor.{Actor}
 use Rattle.hm_mem.specs.declared.Actor.TheVariants.{Thread, Handler, Entry}
 use Rattle.hm_mem.specs.Memory.{Memory, tainted_at}
-use Rattle.hm_mem.specs.Seen.{fault_kind, is_denied, is_kept, is_thread, lies_in_memory, seen, some_byte, stop_after, stop_of}
+use Rattle.hm_mem.specs.Seen.{fault_kind, is_barred, is_denied, is_thread, lies_in_memory, seen, some_byte, stop_after, stop_of}
 use Rattle.hm_state.specs.State.{Cell, State, Value, cells, state_of}
 use Rattle.hm_beat.specs.Trees.{Check, Leaf, checked, finish}
 use Rattle.hm_beat.specs.Touches.{span_bytes}
@@ -85,7 +85,7 @@ module _ (m : Memory) (r : Regs) (output : List ℕ) (store : Bool) (z : Size) (
   by_actor : (o : Option FaultKind) (who : Actor) → (o ≡ None → lies_in_memory (byte_count z) a ≡ true)
       → checked cells ((fails (stop_after o (is_closed who m.around.bounds store (byte_count z) a) store a)
       ++ cond (is_thread who && not store) (asks a (span_bytes a (byte_count z))) []) ++ cs) s
-      ≡ option_or (stop_after o (is_kept who m.around.bounds store (byte_count z) a (seen m)) store a) rest
+      ≡ option_or (stop_after o (is_barred who m.around.bounds store (byte_count z) a (seen m)) store a) rest
   by_actor (Some k) who h = refl
   by_actor None Entry h = refl
   by_actor None (Handler f) h = closed (stop_after None (store && is_denied m.around.bounds f (byte_count z) a) store a)

@@ -11,7 +11,7 @@ use Rattle.hm_mem.specs.Seen.{Seen, after_load, after_store, covers, fault_kind,
 use Rattle.hm_mem.specs.Seen.{stop_of}
 use Rattle.hm_base.specs.Results.{unless}
 use Rattle.hm_mem.specs.declared.Access.{Access}
-use Rattle.hm_mem.proofs.Stops.{kept_none, neither_stops}
+use Rattle.hm_mem.proofs.Stops.{none_barred, neither_stops}
 use Rattle.hm_order.proofs.Results.{decide, ok_err, ok_same, true_not_false}
 use Rattle.hm_state.specs.State.{State, Byte, regs_of}
 use Rattle.hm_regs.specs.declared.Regs.{Regs}
@@ -112,7 +112,7 @@ module _ (frame : ℕ) (bounds : Bounds) where
       let at : a + (b - a) ≡ b = omega arith in
       inr (subst (Allowed frame bounds) at
       (all_allowed len a is (and_parts (lies_in_sram len a) (covers a len b) there).0
-      (kept_none (fault_kind false how true len a) (is_denied bounds frame len a) a free) (b - a) k)))
+      (none_barred (fault_kind false how true len a) (is_denied bounds frame len a) a free) (b - a) k)))
       (λ other. inl (sym (ap (λ (q : Bool). cond q true (s.taint b)) other) ∙ tainted))
 
 -- of the thread, which taints none

@@ -10,7 +10,7 @@ use Rattle.hm_beat.specs.Rows.{Tree, always}
 use Rattle.hm_beat.specs.Touches.{span_bytes}
 use Rattle.hm_beat.specs.Trees.{Check, Leaf, action, checked, finish, reach, written}
 use Rattle.hm_isa.specs.declared.Vector.{Vector}
-use Rattle.hm_mem.proofs.Stops.{kept_none, no_fault}
+use Rattle.hm_mem.proofs.Stops.{none_barred, no_fault}
 use Rattle.hm_mem.specs.Memory.{Around, thread_under, Bounds}
 use Rattle.hm_mem.specs.Seen.{fault_kind, is_denied, lies_in_sram}
 use Rattle.hm_mem.specs.declared.Access.TheVariants.{Vector as VectorAccess}
@@ -107,7 +107,7 @@ module _ (frame : ℕ) (bounds : Bounds) where
           (no_fault (fault_kind false VectorAccess true (byte_count z) e.addr) (is_denied bounds frame (byte_count z) e.addr) true e.addr free)
 
       allowed : is_denied bounds frame (byte_count z) e.addr ≡ false
-      allowed = kept_none (fault_kind false VectorAccess true (byte_count z) e.addr) (is_denied bounds frame (byte_count z) e.addr) e.addr free
+      allowed = none_barred (fault_kind false VectorAccess true (byte_count z) e.addr) (is_denied bounds frame (byte_count z) e.addr) e.addr free
 
       at : (k : ℕ) → k < byte_count z → May (e.addr + k)
       at k l = all_allowed frame bounds (byte_count z) e.addr (sized z) lies allowed k l

@@ -8,7 +8,7 @@ use Rattle.hm_base.specs.declared.FaultKind.{FaultKind}
 use Rattle.hm_base.specs.declared.FaultKind.TheVariants.{Bus}
 use Rattle.hm_mem.specs.Devices.{has_width, device_word}
 use Rattle.hm_mem.specs.Memory.{thread_under, Bounds}
-use Rattle.hm_mem.specs.Seen.{Seen, fault_kind, is_kept, read, stop_after}
+use Rattle.hm_mem.specs.Seen.{Seen, fault_kind, is_barred, read, stop_after}
 use Rattle.hm_base.specs.Results.{unless}
 use Rattle.hm_mem.specs.declared.Actor.TheVariants.{Thread}
 use Rattle.hm_mem.specs.declared.Access.TheVariants.{Scalar}
@@ -99,4 +99,4 @@ enough-alone s = enough alone s (λ a is. (_, λ j. fault_at (is.1 j) a))
 
 pub enough-machine : (bounds : Bounds) (s : Seen) (m a : ℕ) → most_text ≤ m → a < 2 ^ 32
     → text (in_machine (thread_under bounds)) m a s ≡ text (in_machine (thread_under bounds)) most_text a s
-enough-machine bounds s = enough (in_machine (thread_under bounds)) s (λ a is. (_, λ j. stop_after (is.1 j) (is_kept Thread bounds false 1 a s) false a))
+enough-machine bounds s = enough (in_machine (thread_under bounds)) s (λ a is. (_, λ j. stop_after (is.1 j) (is_barred Thread bounds false 1 a s) false a))
