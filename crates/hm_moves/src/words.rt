@@ -68,13 +68,6 @@ fn interleaved_word(w: &Interleaved, z: Size, k: u32) -> Place
     Place::QWord(4 * register_of(w, k) + word_of(z, quotient(w, k)))
 }
 
-/// The lower of two numbers.
-fn least(x: u32, y: u32) -> u32
-    ensures { result ≡ cond (ltb x y) x y }
-{
-    if x < y { x } else { y }
-}
-
 /// Lists the words of interleaved elements. `b` is below 4, and `list` is empty before.
 fn list_interleaved(list: &mut Words, w: &Interleaved, z: Size, b: u8)
     requires beat { b < 4 }
@@ -86,7 +79,7 @@ fn list_interleaved(list: &mut Words, w: &Interleaved, z: Size, b: u8)
     ensures few { length list.new.items ≤ 4 }
 {
     let first = stream(w, z, b);
-    for i in 0..least(per_word(z), registers(w)) {
+    for i in 0..per_word(z).min(registers(w)) {
         list.push(interleaved_word(w, z, first + i));
     }
 }

@@ -1,5 +1,5 @@
 use Rattle.std.proofs.Common.{◌≡◌, ℕ, suc, ◌+◌, ◌-◌, ◌*◌, ◌/◌, ◌%◌, ◌++◌, ◌∷◌, [], cond, ltb, subst, sym, ap, arith, length-append, ◌∙◌}
-use Rattle.std.specs.Prelude.{All}
+use Rattle.std.specs.Prelude.{All, min}
 use Rattle.std.proofs.lemmas.List.Elements.{All-push}
 use Rattle.hm_base.specs.Place.{IsPlace}
 use Rattle.hm_base.specs.declared.Place.{Place}
@@ -10,6 +10,9 @@ use Rattle.hm_moves.specs.Ways.{registers, stream}
 use Rattle.hm_moves.proofs.Widths.{each_more}
 use Rattle.hm_moves.proofs.words.list_interleaved.Goals as goal
 
+lower : (x y : ℕ) → min x y ≡ cond (ltb x y) x y
+lower x y = grind arith
+
 pub loop-i-preserved : goal.loop-i-preserved
 loop-i-preserved c =
     let w = c.args.w.now in
@@ -18,8 +21,8 @@ loop-i-preserved c =
     let f : ℕ → Place = λ i. g (stream w.part z c.args.b + i) in
     let n = cond (ltb (per_word z) (registers w.four)) (per_word z) (registers w.four) in
     let i = c.loop-i.i in
-    let count : c.least-i-end.result ≡ n = c.least-i-end.ensures
-    ∙ (λ t. cond (ltb (c.per_word.ensures.value t) (c.registers.ensures.value t)) (c.per_word.ensures.value t) (c.registers.ensures.value t)) in
+    let count : c.min-i-end.result ≡ n = c.min-i-end.ensures
+    ∙ (λ t. min (c.per_word.ensures.value t) (c.registers.ensures.value t)) ∙ lower (per_word z) (registers w.four) in
     let next : n - i ≡ suc (n - (i + 1)) = omega arith in
     record {
       value = each_more f n i (n - (i + 1)) c.loop-i.list.items _ _ next
