@@ -22,19 +22,6 @@ use hm_kinds::{active, read};
 use hm_lane::{Size, per_word};
 use hm_regs::Regs;
 
-/// So many elements in bytes.
-fn times_size(z: Size, k: u32) -> u32
-    requires { k ≤ 64 }
-    ensures value { result ≡ byte_count z * k }
-    ensures at_most { result ≤ 256 }
-{
-    match z {
-        Size::Byte => k,
-        Size::Half => 2 * k,
-        Size::Word => 4 * k,
-    }
-}
-
 /// So many words in elements.
 fn times_count(z: Size, k: u32) -> u32
     requires { k < 16 }
@@ -104,7 +91,7 @@ fn contiguous_element(w: &Contiguous, y: Size, z: Size, b: u8, base: u32, j: u32
 {
     let index = times_count(z, b as u32) + j;
     Element {
-        addr: start(w, base).wrapping_add(times_size(y, index)),
+        addr: start(w, base).wrapping_add(index * byte_count(y)),
         word: 0,
         lane: lane(z, j),
     }
@@ -147,7 +134,7 @@ fn interleaved_element(w: &Interleaved, y: Size, z: Size, b: u8, base: u32, j: u
     let count = registers(w);
     let index = stream(w, z, b) + j;
     Element {
-        addr: base.wrapping_add(times_size(y, index)),
+        addr: base.wrapping_add(index * byte_count(y)),
         word: (j % count) as u8,
         lane: lane_in_word(z, index / count),
     }

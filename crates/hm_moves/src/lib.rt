@@ -10,7 +10,7 @@ mod ways;
 mod words;
 
 pub use beats::{beat_move, check_move};
-pub use elements::{Element, Elements};
+pub use elements::{Element, Elements, byte_count};
 pub use laws::moves_law;
 pub use touches::touch_move;
 pub use ways::{Addresses, Contiguous, Interleaved, Move, Offsets, Way};

@@ -1,35 +1,21 @@
 //! What the rows that load or store move.
 
-ghost use Rattle.std.specs.Prelude.{◌≡◌, ◌*◌, ◌<◌, ◌≤◌};
+ghost use Rattle.std.specs.Prelude.{◌≡◌, ◌<◌};
 ghost use Rattle.hm_isa.specs.declared.Vector.TheVariants as vector;
-ghost use Rattle.hm_moves.specs.Moves as moves;
 ghost use Rattle.hm_moves.specs.Ways.{transfer_of};
 ghost use Rattle.hm_rows.specs.Rows.{Moves, kind_of, offset_of};
 
 use hm_isa::{V24, V25, V26, V27, V28};
 use hm_lane::Size;
 use hm_lane_fns::size;
-use hm_moves::{Addresses, Contiguous, Interleaved, Move, Offsets, Way};
-
-/// So many elements in bytes.
-fn bytes(i: u32, z: Size) -> u32
-    requires { i < 128 }
-    ensures value { result ≡ i * moves.byte_count z }
-    ensures at_most { result ≤ 508 }
-{
-    match z {
-        Size::Byte => i,
-        Size::Half => 2 * i,
-        Size::Word => 4 * i,
-    }
-}
+use hm_moves::{Addresses, Contiguous, Interleaved, Move, Offsets, Way, byte_count};
 
 /// An offset of so many elements, added or taken away.
 fn offset(added: bool, i: u32, z: Size) -> u32
     requires { i < 128 }
     ensures { result ≡ offset_of added i z }
 {
-    let bytes = bytes(i, z);
+    let bytes = i * byte_count(z);
     if added {
         bytes
     } else {
