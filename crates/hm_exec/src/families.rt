@@ -28,7 +28,7 @@ pub enum Any {
     Wide(Wide),
     /// Sums and extremes into core registers
     Reduce(Reduce),
-    /// What hands something from word to word
+    /// Reversal, duplication, carries and offsets
     Perm(Perm),
     /// Comparisons and the predicate
     Compare(Compare),

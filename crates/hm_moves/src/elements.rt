@@ -133,7 +133,7 @@ pub fn filled(row: &Move, j: usize, es: &[Element], old: u32, m: &Mem) -> u32
     ensures value { result ≡ filled_in (moves_of row.now) j es.now old (seen (memory_of m.now)) }
 {
     let mut word = old;
-    // From the last to the first.
+    // The definition lays the first element last, over the others.
     for k in (0..es.len()).rev() {
         let x = m.peek(es[k].addr, byte_count(row.memory), Access::Vector);
         word = laid(row, j, &es[k], x, word);
