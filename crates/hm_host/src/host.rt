@@ -24,7 +24,7 @@ pub enum HostErr {
 ///
 /// A host may tell its files and its printed bytes, and one that does goes on telling them. It may tell the calls made on it too, and
 /// goes on until a call answers `OutOfMemory`; one that tells them no more never tells them again. `Failed` comes only where the count rose in that
-/// call; all else leaves the count.
+/// call, or stands at its last value; all else leaves the count.
 /// `OutOfMemory` leaves the files and what was printed.
 pub trait Host {
     ghost use Rattle.hm_host.specs.Host.{HostState, Stays, EndsForGood, Counts, Makes, Reads, Writes, Prints, read, write, print};
