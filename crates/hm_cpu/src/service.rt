@@ -27,7 +27,16 @@ pub const OUTPUT: usize = 0x1_0000;
 const MOST_TEXT: u32 = 0x10_0001;
 
 /// The number of the breakpoint that asks something of the host.
-const ASKS: u8 = 171;
+const SEMIHOSTING: u8 = 171;
+
+/// The operation that writes the byte at the address in r1.
+const WRITEC: u32 = 0x03;
+
+/// The operation that writes the text at the address in r1, up to its zero byte.
+const WRITE0: u32 = 0x04;
+
+/// The operation that ends the program; r1 has the reason.
+const EXIT: u32 = 0x18;
 
 /// What a breakpoint asks, once its text is known to be there.
 #[derive(Clone, Copy)]
@@ -86,17 +95,14 @@ fn requested(regs: &Regs, mem: &Mem) -> Result<Request, Stop>
 {
     let operation = regs.get(Place::R(0));
     let about = regs.get(Place::R(1));
-    if operation == 0x03 {
-        byte_request(about, mem)
-    } else if operation == 0x04 {
-        text_request(about, mem)
-    } else if operation == 0x18 {
-        Ok(Request::Exit { reason: about })
-    } else {
-        Err(Stop::Fault(Fault {
+    match operation {
+        WRITEC => byte_request(about, mem),
+        WRITE0 => text_request(about, mem),
+        EXIT => Ok(Request::Exit { reason: about }),
+        _ => Err(Stop::Fault(Fault {
             kind: FaultKind::Semihost,
             addr: regs.pc,
-        }))
+        })),
     }
 }
 
@@ -170,7 +176,7 @@ pub fn breakpoint(k: u8, x: &mut Cpu) -> Result<(), Cause>
     ensures stays { OnErr result (x.new ≡ x.old) }
     ensures kept { IsServed x.old x.new }
 {
-    if k != ASKS {
+    if k != SEMIHOSTING {
         return Err(Cause::Halt(Reason::Break(k)));
     }
     x.regs.in_range();
