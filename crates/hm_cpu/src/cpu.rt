@@ -1,7 +1,7 @@
 //! Instructions and beats of the older instruction, of the thread and of handlers.
 //!
-//! Results are tested for Err first, and `?` is not used: so a letter's way is one run of code without copies of results. What is rare stands
-//! in functions of its own, which are not inlined.
+//! Results are tested for Err first, and but for a breakpoint `?` is not used: so a letter's way is one run of code without copies of results.
+//! What is rare stands in functions of its own, which are not inlined.
 
 ghost use Rattle.std.specs.Prelude.{◌≡◌, ℕ, ◌+◌, ◌^◌, ◌<◌, not, List, IsSome, IsTrue, OnErr, OnOk, Ok, Some, option_map, length};
 ghost use Rattle.std.specs.Vec.{vec_capacity};
@@ -93,7 +93,7 @@ pub fn beat(v: &Any, b: u8, regs: &mut Regs, mem: &mut Mem) -> Result<(), Cause>
 }
 
 /// After a beat of the older instruction: once it has four it is retired, and the next one stands behind it.
-fn settle(x: &mut Cpu)
+fn end_beat(x: &mut Cpu)
     requires count { (x.old.retired < 2 ^ 63) × (x.old.older_steps < 2 ^ 63) }
     requires position { IsPosition x.old }
     requires context { IsTrue x.old.regs.fpca }
@@ -135,7 +135,7 @@ pub fn vector_step(v: &Any, x: &mut Cpu) -> Result<(), Cause>
     if let Err(cause) = beat(v, x.window.a, &mut x.regs, &mut x.mem) {
         return Err(cause);
     }
-    settle(x);
+    end_beat(x);
     Ok(())
 }
 

@@ -1,7 +1,7 @@
 use Rattle.std.proofs.Common.{◌≡◌, ◌+◌, arith}
 use Rattle.hm_cpu.proofs.Steps.{settled}
 use Rattle.hm_mem.specs.Memory.{memory_of}
-use Rattle.hm_cpu.proofs.cpu.settle.Goals as goal
+use Rattle.hm_cpu.proofs.cpu.end_beat.Goals as goal
 
 pub returns-else-x-lt3-clause-value : goal.returns-else-x-lt3-clause-value
 returns-else-x-lt3-clause-value c listing around =

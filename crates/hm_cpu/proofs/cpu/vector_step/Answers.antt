@@ -25,8 +25,8 @@ returns-in-Err-beat-clause-value c listing row =
     (λ some. ap (λ (r : Regs). state_of r m x.output.items) (c.in_default.ensures.later some))
     (c.in_default.ensures.value listing m x.output.items) (c.in-Err-beat.ensures.value x.output.items)
 
-pub settle-requires-clause-pc : goal.settle-requires-clause-pc
-settle-requires-clause-pc c =
+pub end_beat-requires-clause-pc : goal.end_beat-requires-clause-pc
+end_beat-requires-clause-pc c =
     let x = c.args.x.now in
     let stays = beat_stays (row_of c.args.v.now) x.window.a c.begin.new.regs c.beat.new.regs (memory_of x.mem) (memory_of c.beat.new.mem) x.output.items
     (c.in_default-beat.ensures.value x.output.items) in
@@ -36,12 +36,12 @@ pub returns-clause-value : goal.returns-clause-value
 returns-clause-value c listing row =
     let x = c.args.x.now in
     row_done listing x (row_of c.args.v.now) _ _ _ row (c.in_default.ensures.value listing (memory_of x.mem) x.output.items)
-    (c.in_default-beat.ensures.value x.output.items) (c.settle.ensures.value listing (memory_of x.mem).around)
+    (c.in_default-beat.ensures.value x.output.items) (c.end_beat.ensures.value listing (memory_of x.mem).around)
 
 pub returns-clause-stays : goal.returns-clause-stays
 returns-clause-stays c more =
     let x = c.args.x.now in
     let stays = beat_stays (row_of c.args.v.now) x.window.a c.begin.new.regs c.beat.new.regs (memory_of x.mem) (memory_of c.beat.new.mem) x.output.items
     (c.in_default-beat.ensures.value x.output.items) in
-    let settled = c.settle.ensures.stays more in
+    let settled = c.end_beat.ensures.stays more in
     (settled.0 ∙ stays ∙ c.in_default.ensures.pc, settled.1)
