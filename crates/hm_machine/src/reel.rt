@@ -12,7 +12,7 @@ use hm_base::OutOfMemory;
 use std::alloc::Global;
 
 /// So many checkpoints are kept at most.
-const CHECKPOINTS: u8 = 64;
+pub const CHECKPOINTS: u32 = 64;
 
 /// The checkpoints of a run, `apart` ticks from one another, from its start, where the machine is, as far as the run goes. The machine goes on so far.
 pub fn filled(

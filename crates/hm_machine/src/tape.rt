@@ -12,7 +12,7 @@ ghost use Rattle.hm_state.specs.Start.{reset_pc};
 use crate::checkpoint::Checkpoint;
 use crate::load::LoadErr;
 use crate::machine::Machine;
-use crate::reel::{bring, filled};
+use crate::reel::{CHECKPOINTS, bring, filled};
 use hm_base::Image;
 use hm_sched::Schedule;
 use std::alloc::Global;
@@ -66,7 +66,7 @@ impl Tape {
         ensures few { IfOk result (λ w. length w.checkpoints ≤ 64) }
     {
         let mut machine = Machine::load(alloc, image, s)?;
-        let apart = machine.scheduled() / 64 + 1;
+        let apart = machine.scheduled() / CHECKPOINTS + 1;
         let kept = filled(alloc, apart, &mut machine)?;
         let _outcome = machine.run();
         let output = machine.copied_output(alloc)?;
