@@ -242,7 +242,7 @@ impl Machine {
 
     /// Does one tick of a run that goes on, with what it decoded of late.
     #[inline(always)]
-    fn advance<L: Letters>(&mut self, recent: &mut L)
+    fn advance<L: Letters>(&mut self, decoder: &mut L)
         requires running { self.old.outcome ≡ None }
         requires lines { 0 < length self.old.schedule.lines }
         ensures next { (listing : Listing) (es : List Pointers) → IsListing (flash_at self.old.memory) listing
@@ -265,7 +265,7 @@ impl Machine {
             line.letters.as_slice(),
             &line.irq,
             may_enter,
-            recent,
+            decoder,
             &mut self.cpu,
         ) {
             Err(outcome) => self.outcome = Some(outcome),
@@ -279,9 +279,9 @@ impl Machine {
         }
     }
 
-    /// Does one tick. An ended machine answers the same again and changes nothing. `recent` has what the run decoded of late, on which nothing depends.
+    /// Does one tick. An ended machine answers the same again and changes nothing. `decoder` may keep what the run decoded of late, on which nothing depends.
     #[inline(always)]
-    fn tick_with<L: Letters>(&mut self, recent: &mut L) -> Turn
+    fn tick_with<L: Letters>(&mut self, decoder: &mut L) -> Turn
         ensures shows { (image : List Segment) (s : Sched) (t : ℕ) → Shows image s t self.old → Shows image s (suc t) self.new }
         ensures ended { IsSome self.old.outcome → self.new ≡ self.old }
         ensures turn { result ≡ tick_answer self.new.outcome }
@@ -299,7 +299,7 @@ impl Machine {
             self.outcome = Some(Outcome::OutOfTicks);
             return Turn::Ended(Outcome::OutOfTicks);
         }
-        self.advance(recent);
+        self.advance(decoder);
         match self.outcome {
             Some(outcome) => Turn::Ended(outcome),
             None => Turn::Running,
@@ -330,11 +330,11 @@ impl Machine {
     }
 
     /// Does so many ticks, or those until the run ends, with what was decoded of late.
-    fn go_on<L: Letters>(&mut self, count: u32, recent: &mut L)
+    fn go_on<L: Letters>(&mut self, count: u32, decoder: &mut L)
         ensures passes { Passes count self.old self.new }
     {
         for _k in 0..count {
-            if let Turn::Ended(_) = self.tick_with(recent) {
+            if let Turn::Ended(_) = self.tick_with(decoder) {
                 return;
             }
         }

@@ -6,7 +6,7 @@ ghost use Rattle.std.specs.Prelude.{◌≡◌, ℕ, ◌+◌, ◌^◌, ◌<◌, �
 ghost use Rattle.std.specs.Vec.{vec_capacity};
 ghost use Rattle.hm_codes.specs.Listing.{Listing, IsListing};
 ghost use Rattle.hm_cpu.specs.Cpus.{nested_of, CountsNone, IsPosition, IsSoundUnder, IsSoundUnderSome, KeepsFlash};
-ghost use Rattle.hm_run_laws.specs.Nested.{at_step, letter, letters};
+ghost use Rattle.hm_run_laws.specs.Nested.{at_step, letter, letters as letters_done};
 ghost use Rattle.hm_run_laws.specs.Runs.{Pointers, ended, tick_end};
 ghost use Rattle.hm_machine.specs.Ticked.{ticked, Came};
 ghost use Rattle.hm_machine.specs.Shown.{run_with};
@@ -26,7 +26,7 @@ use hm_window::ending;
 
 /// What a letter of a schedule does, the `step`-th of its tick.
 #[inline(always)]
-fn letter_at<L: Letters>(step: u32, l: u8, recent: &mut L, x: &mut Cpu) -> Result<(), EarlyEnd>
+fn letter_at<L: Letters>(step: u32, l: u8, decoder: &mut L, x: &mut Cpu) -> Result<(), EarlyEnd>
     requires count { (x.old.retired < 2 ^ 61) × (x.old.older_steps < 2 ^ 61) }
     requires position { IsPosition x.old }
     requires room { vec_capacity x.old.output ≡ most_output }
@@ -38,7 +38,7 @@ fn letter_at<L: Letters>(step: u32, l: u8, recent: &mut L, x: &mut Cpu) -> Resul
     ensures position { OnOk result (IsPosition x.new) }
     ensures count { (x.new.retired ≤ x.old.retired + 4) × (x.new.older_steps ≤ x.old.older_steps + 4) }
 {
-    if let Err(end) = recent.letter(l, x) {
+    if let Err(end) = decoder.letter(l, x) {
         return Err(EarlyEnd {
             step,
             younger: l == b'Y',
@@ -50,23 +50,23 @@ fn letter_at<L: Letters>(step: u32, l: u8, recent: &mut L, x: &mut Cpu) -> Resul
 
 /// The letters of a tick, one after another: as bytes, eight at most.
 #[inline(always)]
-fn letters<L: Letters>(steps: &[u8], recent: &mut L, x: &mut Cpu) -> Result<(), EarlyEnd>
-    requires few { length steps.now ≤ 8 }
+fn do_letters<L: Letters>(letters: &[u8], decoder: &mut L, x: &mut Cpu) -> Result<(), EarlyEnd>
+    requires few { length letters.now ≤ 8 }
     requires count { (x.old.retired < 2 ^ 60) × (x.old.older_steps < 2 ^ 60) }
     requires position { IsPosition x.old }
     requires room { vec_capacity x.old.output ≡ most_output }
     requires sound { IsSoundUnderSome x.old }
     ensures value { (listing : Listing) (s : Sched) → IsListing (flash_at (memory_of x.old.mem)) listing → IsSoundUnder s x.old
-        → ticked result x.new ≡ letters listing s 0 steps.now (nested_of x.old) }
+        → ticked result x.new ≡ letters_done listing s 0 letters.now (nested_of x.old) }
     ensures sound { (s : Sched) → IsSoundUnder s x.old → OnOk result (IsSoundUnder s x.new) }
     ensures moves { KeepsFlash x.old x.new }
     ensures position { OnOk result (IsPosition x.new) }
     ensures count { (x.new.retired ≤ x.old.retired + 32) × (x.new.older_steps ≤ x.old.older_steps + 32) }
 {
     let mut step = 0;
-    for l in steps {
+    for l in letters {
         step += 1;
-        if let Err(early) = letter_at(step, *l, recent, x) {
+        if let Err(early) = letter_at(step, *l, decoder, x) {
             return Err(early);
         }
     }
@@ -87,14 +87,14 @@ fn count_and_arrive(irq: &[u32; 8], mem: &mut Mem)
 #[inline(always)]
 fn end_tick(
     tick: u32,
-    steps: u32,
+    count: u32,
     irq: &[u32; 8],
-    entries: bool,
+    may_enter: bool,
     x: &mut Cpu,
 ) -> Result<bool, Outcome>
     requires sound { IsSoundUnderSome x.old }
     requires position { IsPosition x.old }
-    ensures value { (s : Sched) (line : TickLine) (es : List Pointers) → s.entries ≡ entries → line.irq ≡ irq.now → length line.letters ≡ steps
+    ensures value { (s : Sched) (line : TickLine) (es : List Pointers) → s.entries ≡ may_enter → line.irq ≡ irq.now → length line.letters ≡ count
         → IsSoundUnder s x.old
         → Came result (nested_of x.new) tick es (tick_end s line (run_with None (nested_of x.old) tick es)) }
     ensures moves { KeepsFlash x.old x.new }
@@ -104,12 +104,12 @@ fn end_tick(
     if let Err(rule) = ending(x.window) {
         return Err(Outcome::RuleBroken {
             tick,
-            step: steps,
+            step: count,
             rule,
         });
     }
     count_and_arrive(irq, &mut x.mem);
-    if !entries {
+    if !may_enter {
         return Ok(false);
     }
     enter_picked(tick, x)
@@ -120,26 +120,27 @@ fn end_tick(
 #[inline(always)]
 pub fn tick<L: Letters>(
     tick: u32,
-    steps: &[u8],
+    letters: &[u8],
     irq: &[u32; 8],
-    entries: bool,
-    recent: &mut L,
+    may_enter: bool,
+    decoder: &mut L,
     x: &mut Cpu,
 ) -> Result<bool, Outcome>
-    requires few { length steps.now ≤ 8 }
+    requires few { length letters.now ≤ 8 }
     requires count { (x.old.retired < 2 ^ 60) × (x.old.older_steps < 2 ^ 60) }
     requires position { IsPosition x.old }
     requires room { vec_capacity x.old.output ≡ most_output }
     requires sound { IsSoundUnderSome x.old }
     ensures value { (listing : Listing) (s : Sched) (line : TickLine) (t : ℕ) (es : List Pointers) → IsListing (flash_at (memory_of x.old.mem)) listing
-        → s.entries ≡ entries → line.letters ≡ steps.now → line.irq ≡ irq.now → t + 1 ≡ tick → IsSoundUnder s x.old
-        → Came result (nested_of x.new) tick es (ended s line (run_with None (nested_of x.old) t es) (letters listing s 0 line.letters (nested_of x.old))) }
+        → s.entries ≡ may_enter → line.letters ≡ letters.now → line.irq ≡ irq.now → t + 1 ≡ tick → IsSoundUnder s x.old
+        → Came result (nested_of x.new) tick es
+        (ended s line (run_with None (nested_of x.old) t es) (letters_done listing s 0 line.letters (nested_of x.old))) }
     ensures moves { KeepsFlash x.old x.new }
     ensures position { OnOk result (IsPosition x.new) }
     ensures count { (x.new.retired ≤ x.old.retired + 33) × (x.new.older_steps ≤ x.old.older_steps + 33) }
 {
-    if let Err(early) = letters(steps, recent, x) {
+    if let Err(early) = do_letters(letters, decoder, x) {
         return Err(conclude(tick, early, x));
     }
-    end_tick(tick, steps.len() as u32, irq, entries, x)
+    end_tick(tick, letters.len() as u32, irq, may_enter, x)
 }

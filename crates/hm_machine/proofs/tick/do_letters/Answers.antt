@@ -3,12 +3,12 @@ use Rattle.hm_cpu.proofs.Keeping.{listed_still, moves_then}
 use Rattle.hm_cpu.specs.Cpus.{nested_of}
 use Rattle.hm_machine.proofs.Letters.{letters_on, letters_stop}
 use Rattle.hm_machine.specs.Ticked.{early_ended}
-use Rattle.hm_machine.proofs.tick.letters.Goals as goal
+use Rattle.hm_machine.proofs.tick.do_letters.Goals as goal
 
 pub returns-in-Err-clause-value : goal.returns-in-Err-clause-value
 returns-in-Err-clause-value g c listing s is sound =
     let step = c.in-Err.ensures.value listing s (listed_still c.loop-l.invariant.moves listing is) (c.loop-l.invariant.sound s sound) in
-    letters_stop listing s c.loop-l.l-index c.loop-l.step c.args.steps.now (nested_of c.loop-l.x) c.loop-l-test.true c.loop-l.invariant.counted
+    letters_stop listing s c.loop-l.l-index c.loop-l.step c.args.letters.now (nested_of c.loop-l.x) c.loop-l-test.true c.loop-l.invariant.counted
     (early_ended c.in-Err.early (nested_of c.letter_at.new.x)) step
     ∙ c.loop-l.invariant.value listing s is sound
 
@@ -18,7 +18,7 @@ returns-in-Err-clause-moves g c = moves_then c.loop-l.invariant.moves c.in-Err.e
 pub loop-l-preserved : goal.loop-l-preserved
 loop-l-preserved g c = record {
   value = λ listing s is sound.
-      letters_on listing s c.loop-l.l-index c.loop-l.step c.args.steps.now (nested_of c.loop-l.x) c.loop-l-test.true c.loop-l.invariant.counted
+      letters_on listing s c.loop-l.l-index c.loop-l.step c.args.letters.now (nested_of c.loop-l.x) c.loop-l-test.true c.loop-l.invariant.counted
       (nested_of c.letter_at.new.x)
       (c.in_default.ensures.value listing s (listed_still c.loop-l.invariant.moves listing is) (c.loop-l.invariant.sound s sound))
       ∙ c.loop-l.invariant.value listing s is sound;

@@ -4,12 +4,12 @@ use Rattle.hm_cpu.specs.Cpus.{nested_of, IsPosition, IsSoundUnder, IsSoundUnderS
 use Rattle.hm_run_laws.specs.Nested.{letters}
 use Rattle.hm_mem.specs.Memory.{memory_of, flash_at}
 use Rattle.hm_sched.specs.Schedule.{Sched}
-use Rattle.hm_machine.proofs.tick.letters.Given as goal
+use Rattle.hm_machine.proofs.tick.do_letters.Given as goal
 
 abbrev pub invariant-loop-l : goal.invariant-loop-l
 invariant-loop-l g l = record {
   value : (listing : Listing) (s : Sched) → IsListing (flash_at (memory_of l.initial.x.mem)) listing → IsSoundUnder s l.initial.x
-      → letters listing s l.l-index (drop l.l-index l.steps) (nested_of l.x) ≡ letters listing s 0 l.steps (nested_of l.initial.x);
+      → letters listing s l.l-index (drop l.l-index l.letters) (nested_of l.x) ≡ letters listing s 0 l.letters (nested_of l.initial.x);
   sound : (s : Sched) → IsSoundUnder s l.initial.x → IsSoundUnder s l.x;
   some : IsSoundUnderSome l.x;
   moves : KeepsFlash l.initial.x l.x;

@@ -10,11 +10,11 @@ use Rattle.std.proofs.Common.{refl}
 use Rattle.hm_mem.specs.Memory.{memory_of}
 use Rattle.hm_machine.proofs.tick.end_tick.Goals as goal
 
-pub returns-then-not-entries-clause-value : goal.returns-then-not-entries-clause-value
-returns-then-not-entries-clause-value c s line es entries irq steps sound =
+pub returns-then-not-may_enter-clause-value : goal.returns-then-not-may_enter-clause-value
+returns-then-not-may_enter-clause-value c s line es may_enter irq count sound =
     let x = c.args.x.now in
     ends_quiet s line (nested_of x) c.args.tick es _ (may_end_well (may_end x.window.a x.window.b) _ _ (sym c.ending.ensures.value ∙ c.in_default.is))
-    (entries ∙ c.if-not-entries.true)
+    (may_enter ∙ c.if-not-may_enter.true)
     (counted_nested x (memory_of c.count_and_arrive.new.mem) c.args.irq.now line c.args.tick es irq c.count_and_arrive.ensures.value)
 
 pub enter_picked-requires-clause-sound : goal.enter_picked-requires-clause-sound
@@ -28,9 +28,9 @@ enter_picked-requires-clause-sound c =
     )
 
 pub returns-clause-value : goal.returns-clause-value
-returns-clause-value c s line es entries irq steps sound =
+returns-clause-value c s line es may_enter irq count sound =
     let x = c.args.x.now in
     let counted = counted_nested x (memory_of c.count_and_arrive.new.mem) c.args.irq.now line c.args.tick es irq c.count_and_arrive.ensures.value in
     ends_picked s line (nested_of x) c.args.tick es _ c.enter_picked.result (nested_of c.enter_picked.new.x)
-    (may_end_well (may_end x.window.a x.window.b) _ _ (sym c.ending.ensures.value ∙ c.in_default.is)) (entries ∙ c.if-not-entries.false) counted
+    (may_end_well (may_end x.window.a x.window.b) _ _ (sym c.ending.ensures.value ∙ c.in_default.is)) (may_enter ∙ c.if-not-may_enter.false) counted
     (c.enter_picked.ensures.value s es (subst (IsSound s) (sym counted) (counted_sound s line.irq (nested_of x) sound)))
