@@ -50,9 +50,7 @@ fn running_priority(x: &Cpu) -> u16
     requires sound { IsSoundUnderSome x.now }
     ensures value { result ≡ running_priority (memory_of x.now.mem).devices (mask_of x.now.regs.primask x.now.regs.basepri) (nested_of x.now).acts }
 {
-    let mask = mask(&x.regs);
-    let active = active_priority(x);
-    if mask < active { mask } else { active }
+    mask(&x.regs).min(active_priority(x))
 }
 
 /// How a run ends where an exception may not enter.

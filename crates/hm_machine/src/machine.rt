@@ -462,10 +462,7 @@ impl Machine {
         ensures there { IfSome result (λ i. Stands (flash_at self.now.memory) addr i) }
         ensures none { IfNone result ((i : Instr) → ¬ (Stands (flash_at self.now.memory) addr i)) }
     {
-        match fetch(&self.cpu.mem, addr) {
-            Ok(i) => Some(i),
-            Err(_) => None,
-        }
+        fetch(&self.cpu.mem, addr).ok()
     }
 
     /// What changes of it in a run, as it stands. OutOfMemory where memory for it was refused.
@@ -546,7 +543,7 @@ impl Machine {
         ensures first { IfSome result (λ line. self.now.left ≡ line_of line.now ∷ drop 1 self.now.left) }
         ensures none { IfNone result (self.now.outcome ≡ None → self.now.schedule.lines ≡ []) }
     {
-        if let Some(_outcome) = self.outcome {
+        if self.outcome.is_some() {
             return None;
         }
         if self.schedule.lines() == 0 {
