@@ -12,8 +12,10 @@ use thiserror::Error;
 /// Why there is no machine.
 #[derive(Clone, Copy, Debug, Error)]
 pub enum LoadErr {
+    /// Bit 0 of the word at 4, the address of the first instruction, is 0; `value` is that word.
     #[error("bit 0 of the reset address is not set")]
     Reset { value: u32 },
+    /// Memory that the machine needs was refused.
     #[error("out of memory")]
     OutOfMemory,
 }
