@@ -14,22 +14,14 @@ use hm_regs::Regs;
 fn is_breakpoint(i: &Scalar) -> bool
     ensures value { result ≡ is_breakpoint i.now }
 {
-    match i {
-        Scalar::S18(_) => true,
-        _ => false,
-    }
+    matches!(i, Scalar::S18(_))
 }
 
 /// Whether it reaches the vector registers, FPSCR or VPR.
 fn reaches_vectors(i: &Scalar) -> bool
     ensures value { result ≡ reaches_vectors i.now }
 {
-    match i {
-        Scalar::T15(_) => true,
-        Scalar::T21(_) => true,
-        Scalar::T22(_) => true,
-        _ => false,
-    }
+    matches!(i, Scalar::T15(_) | Scalar::T21(_) | Scalar::T22(_))
 }
 
 /// Whether it begins or ends a loop over elements: `dlstp`, `wlstp` or `letp`.
@@ -92,16 +84,16 @@ pub fn begin(i: &Instr, regs: &mut Regs) -> bool
 pub fn loads_or_stores(i: &Scalar) -> bool
     ensures value { result ≡ loads_or_stores i.now }
 {
-    match i {
-        Scalar::S14(_) => true,
-        Scalar::S15(_) => true,
-        Scalar::S16(_) => true,
-        Scalar::S17(_) => true,
-        Scalar::S20(_) => true,
-        Scalar::T12(_) => true,
-        Scalar::T13(_) => true,
-        Scalar::T14(_) => true,
-        Scalar::T15(_) => true,
-        _ => false,
-    }
+    matches!(
+        i,
+        Scalar::S14(_)
+            | Scalar::S15(_)
+            | Scalar::S16(_)
+            | Scalar::S17(_)
+            | Scalar::S20(_)
+            | Scalar::T12(_)
+            | Scalar::T13(_)
+            | Scalar::T14(_)
+            | Scalar::T15(_)
+    )
 }
