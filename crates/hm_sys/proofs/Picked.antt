@@ -74,8 +74,8 @@ module _ (d : Dev) (c e : ℕ) where
 
   -- one so far
   module _ (b : ℕ) (h : IsFirst d c e b) where
-    pub better_first : is_eligible d (priority_of d b) e ≡ true → IsBest d c (e + 1) (Some e)
-    better_first g =
+    pub more_urgent_first : is_eligible d (priority_of d b) e ≡ true → IsBest d c (e + 1) (Some e)
+    more_urgent_first g =
         let t = tested (is_waiting d e) (priority_of d e) (priority_of d b) g in
         let u = tested (is_waiting d b) (priority_of d b) c h.eligible in
         let less : priority_of d e < priority_of d b = t.1 in
@@ -170,7 +170,7 @@ module _ (d : Dev) (c : ℕ) where
   later_none e false t h = none_still d c e h t
 
   later_some : (e f : ℕ) (b : Bool) → is_eligible d (priority_of d f) e ≡ b → IsFirst d c e f → IsBest d c (e + 1) (cond b (Some e) (Some f))
-  later_some e f true t h = better_first d c e f h t
+  later_some e f true t h = more_urgent_first d c e f h t
   later_some e f false t h = still_first d c e f h t
 
   later_best : (e : ℕ) (o : Option ℕ) → IsBest d c e o → IsBest d c (e + 1) (or_later d c o e)

@@ -8,13 +8,13 @@ ghost use Rattle.hm_sys.specs.Ticks.{arrived, with_pending};
 use hm_mem::Dev;
 
 /// The exception number of SysTick (DDI0553, "Exception numbers and exception priority numbers").
-const TICK: u16 = 15;
+const SYSTICK: u16 = 15;
 
 /// The exception number of interrupt 0.
 const FIRST_EXTERNAL: u16 = 16;
 
 /// The first number that no exception has.
-const END: u16 = 256;
+const EXCEPTIONS_END: u16 = 256;
 
 /// Bit `n` of words, 32 in each.
 fn is_set(n: u16, words: &[u32; 8]) -> bool
@@ -54,7 +54,7 @@ pub fn priority(d: &Dev, e: u16) -> u16
     requires exception { IsException e }
     ensures value { result ≡ priority_of d.now e }
 {
-    if e == TICK {
+    if e == SYSTICK {
         d.tick_prio as u16
     } else {
         d.prio[(e - FIRST_EXTERNAL) as usize] as u16
@@ -66,7 +66,7 @@ fn is_waiting(d: &Dev, e: u16) -> bool
     requires exception { IsException e }
     ensures value { result ≡ is_waiting d.now e }
 {
-    if e == TICK {
+    if e == SYSTICK {
         d.tick_pending
     } else {
         let n = e - FIRST_EXTERNAL;
@@ -83,7 +83,7 @@ fn is_eligible(d: &Dev, current: u16, e: u16) -> bool
 }
 
 /// The more urgent of the most urgent so far and `e`, which has a higher exception number.
-fn better(d: &Dev, current: u16, best: Option<u16>, e: u16) -> Option<u16>
+fn more_urgent(d: &Dev, current: u16, best: Option<u16>, e: u16) -> Option<u16>
     requires exception { IsException e }
     requires so_far { IsBest d.now current e best }
     ensures next { IsBest d.now current (e + 1) result }
@@ -111,11 +111,11 @@ fn end_of(words: u16) -> u16
     requires { words ≤ 8 }
     ensures value { result ≡ end_of words }
 {
-    END.min(FIRST_EXTERNAL + 32 * words)
+    EXCEPTIONS_END.min(FIRST_EXTERNAL + 32 * words)
 }
 
 /// The more urgent of the most urgent so far and the interrupts of word `k`. Where none of these is both pending and enabled they are not looked at.
-fn better_of_word(d: &Dev, current: u16, best: Option<u16>, k: u16) -> Option<u16>
+fn most_urgent_of_word(d: &Dev, current: u16, best: Option<u16>, k: u16) -> Option<u16>
     requires word { k < 8 }
     requires so_far { IsBest d.now current (end_of k) best }
     ensures next { IsBest d.now current (end_of (k + 1)) result }
@@ -125,7 +125,7 @@ fn better_of_word(d: &Dev, current: u16, best: Option<u16>, k: u16) -> Option<u1
     }
     let mut best = best;
     for e in end_of(k)..end_of(k + 1) {
-        best = better(d, current, best, e);
+        best = more_urgent(d, current, best, e);
     }
     best
 }
@@ -140,9 +140,9 @@ pub fn candidate(d: &Dev, current: u16) -> Option<u16>
     ensures unique { (e : ℕ) → IsPicked d.now current e → result ≡ Some e }
     ensures range { IfSome result (λ e. IsException e) }
 {
-    let mut best = better(d, current, None, TICK);
+    let mut best = more_urgent(d, current, None, SYSTICK);
     for k in 0_u16..8 {
-        best = better_of_word(d, current, best, k);
+        best = most_urgent_of_word(d, current, best, k);
     }
     best
 }
@@ -152,7 +152,7 @@ pub fn accept(d: &mut Dev, e: u16)
     requires exception { IsException e }
     ensures value { d.new ≡ accepted e d.old }
 {
-    if e == TICK {
+    if e == SYSTICK {
         d.tick_pending = false;
     } else {
         let n = e - FIRST_EXTERNAL;
