@@ -100,13 +100,7 @@ pub fn touch_extreme(row: &V23, b: u8, r: &Regs) -> Touch
     let mut sources = Places::new();
     note(&mut sources, word_place(&row.m, b));
     note(&mut sources, register);
-    let shape = Shape {
-        reads_slice: false,
-        slice: false,
-        mask: false,
-        marks: false,
-    };
-    touch_row(sources, Some(register), None, shape, b, r)
+    touch_row(sources, Some(register), None, Shape::PLAIN, b, r)
 }
 
 /// Does beat `b` of `vmaxv` or `vminv`: DDI0553, "VMAXV, VMAXAV" and "VMINV, VMINAV". `b` is below 4.

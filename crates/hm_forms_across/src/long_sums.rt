@@ -60,13 +60,7 @@ pub fn touch_long(row: &LongSums, b: u8, r: &Regs) -> Touch
     note(&mut sources, word_place(&row.n, b));
     note(&mut sources, high);
     note(&mut sources, low);
-    let shape = Shape {
-        reads_slice: false,
-        slice: false,
-        mask: false,
-        marks: false,
-    };
-    touch_row(sources, Some(low), Some(high), shape, b, r)
+    touch_row(sources, Some(low), Some(high), Shape::PLAIN, b, r)
 }
 
 /// Does beat `b` of `vaddlv`, `vaddlva`, `vmlaldav` or `vmlaldava`: DDI0553, "VADDLV" and "VMLALDAV". `b` is below 4.

@@ -60,13 +60,7 @@ pub fn touch_sum(row: &Sums, b: u8, r: &Regs) -> Touch
     note(&mut sources, word_place(&row.m, b));
     note(&mut sources, word_place(&row.n, b));
     note(&mut sources, register);
-    let shape = Shape {
-        reads_slice: false,
-        slice: false,
-        mask: false,
-        marks: false,
-    };
-    touch_row(sources, Some(register), None, shape, b, r)
+    touch_row(sources, Some(register), None, Shape::PLAIN, b, r)
 }
 
 /// Does beat `b` of `vaddv`, `vaddva`, `vmladav` or `vmladava`: DDI0553, "VADDV" and "VMLADAV". `b` is below 4.

@@ -107,13 +107,7 @@ pub fn touch_carry(row: &V8, b: u8, r: &Regs) -> Touch
     note(&mut sources, word_place(&row.m, b));
     note(&mut sources, word_place(&row.n, b));
     note(&mut sources, word);
-    let shape = Shape {
-        reads_slice: false,
-        slice: false,
-        mask: false,
-        marks: false,
-    };
-    touch_row(sources, Some(Place::Carry), Some(word), shape, b, r)
+    touch_row(sources, Some(Place::Carry), Some(word), Shape::PLAIN, b, r)
 }
 
 /// Does beat `b` of `vadc`, `vadci`, `vsbc` or `vsbci`: DDI0553, "VADC" and "VSBC". `b` is below 4.

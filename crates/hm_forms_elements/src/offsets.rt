@@ -183,13 +183,7 @@ pub fn touch_offsets(row: &Steps, b: u8, r: &Regs) -> Touch
     note_round(&mut sources, row);
     note(&mut sources, first_place(row));
     note(&mut sources, word);
-    let shape = Shape {
-        reads_slice: false,
-        slice: false,
-        mask: false,
-        marks: false,
-    };
-    touch_row(sources, Some(word), last_place(row, b), shape, b, r)
+    touch_row(sources, Some(word), last_place(row, b), Shape::PLAIN, b, r)
 }
 
 /// Does beat `b` of `vidup`, `viwdup`, `vddup` or `vdwdup`: DDI0553, "VIDUP, VIWDUP" and "VDDUP, VDWDUP". `b` is below 4.

@@ -48,13 +48,7 @@ pub fn touch_shift(row: &V17, b: u8, r: &Regs) -> Touch
     let mut sources = Places::new();
     note(&mut sources, register);
     note(&mut sources, word);
-    let shape = Shape {
-        reads_slice: false,
-        slice: false,
-        mask: false,
-        marks: false,
-    };
-    touch_row(sources, Some(register), Some(word), shape, b, r)
+    touch_row(sources, Some(register), Some(word), Shape::PLAIN, b, r)
 }
 
 /// Does beat `b` of `vshlc`: DDI0553, "VSHLC". `b` is below 4.
