@@ -5,8 +5,7 @@ mod functions;
 mod words;
 
 pub use functions::{
-    LaneFn, bit_count, clamped, cut, extended_lane, halved, is_outside, lane, lane_product,
-    lane_saturates, lane_value, saturates,
+    LaneFn, clamped, cut, extended_lane, halved, is_outside, lane_product, lane_value, saturates,
 };
 pub use words::{
     Operand, any_both, both, element_size, lanes_saturate, lanes_word, merge, merge_active, nibble,
