@@ -25,7 +25,7 @@ use crate::found::{find_elements, is_predicated, only_element};
 use crate::words::{Words, list_words, single, written_back};
 use arrayvec::ArrayVec;
 use hm_base::{Place, Stop};
-use hm_kinds::{Written, put_some};
+use hm_kinds::{Written, put_mask, put_slice, put_some};
 use hm_lane::{is_unpredicated, mask_at};
 use hm_mem::Mem;
 use hm_regs::Regs;
@@ -227,31 +227,6 @@ fn transfer(row: &Move, one: Option<u8>, b: u8, es: &[Element], r: &mut Regs, m:
     }
 }
 
-/// Inverts the slice of beat `b`, where the mask says so.
-fn put_slice(r: &mut Regs, b: u8, mask: u32, slice: u32)
-    requires beat { b < 4 }
-    requires small { slice < 16 }
-    ensures value { r.new ≡ apply (cond (ltb 8 mask) (write (P0 b) (15 - slice) ∷ []) []) r.old }
-    ensures context { r.new.fpca ≡ r.old.fpca }
-{
-    if mask > 8 {
-        r.set(Place::P0(b), 15 - slice);
-    }
-}
-
-/// Shifts the mask after the second beat of its half.
-fn put_mask(r: &mut Regs, b: u8, mask: u32)
-    requires beat { b < 4 }
-    requires small { mask < 16 }
-    ensures value { r.new ≡ apply (cond (eqb (b % 2) 1 && not (eqb mask 0)) (write (mask_place b) (2 * mask) ∷ []) []) r.old }
-    ensures context { r.new.fpca ≡ r.old.fpca }
-{
-    let place = mask_at(b);
-    if b % 2 == 1 && mask != 0 {
-        r.set(place, 2 * mask);
-    }
-}
-
 /// Writes what is written back, and advances the masks from what stood in the mask and the slice of beat `b`, which is below 4.
 #[inline(always)]
 fn finish(r: &mut Regs, back: Option<Written>, b: u8, mask: u32, slice: u32)
@@ -263,8 +238,8 @@ fn finish(r: &mut Regs, back: Option<Written>, b: u8, mask: u32, slice: u32)
     ensures context { r.new.fpca ≡ r.old.fpca }
 {
     put_some(r, back);
-    put_slice(r, b, mask, slice);
-    put_mask(r, b, mask);
+    put_slice(r, b, mask, slice, None);
+    put_mask(r, b, mask, None);
 }
 
 /// Does beat `b`, by the elements that it moves and the mask of its half, or stops and changes nothing. `b` is below 4.
