@@ -20,7 +20,7 @@ use hm_base::{Place, Places, note};
 use hm_beat::Touch;
 use hm_isa::{ComplexSumName, V9};
 use hm_kinds::read;
-use hm_lane::{Size, bytes};
+use hm_lane::{Size, bytes, word};
 use hm_lane_fns::{cut, halved, lane_value, merge_active, size, word_place};
 use hm_regs::Regs;
 
@@ -95,7 +95,7 @@ fn byte_sums(row: &V9, even: bool, x: u32, y: u32) -> u32
     let c1 = complex_sum_lane(row, Size::Byte, odd, x1 as u32, y0 as u32);
     let c2 = complex_sum_lane(row, Size::Byte, third, x2 as u32, y3 as u32);
     let c3 = complex_sum_lane(row, Size::Byte, !third, x3 as u32, y2 as u32);
-    c0 + (c1 << 8) + (c2 << 16) + (c3 << 24)
+    word([c0 as u8, c1 as u8, c2 as u8, c3 as u8])
 }
 
 /// The new word of halfwords, of whose first it is said whether its number is even.

@@ -19,7 +19,7 @@ use hm_base::{Place, Places, note};
 use hm_beat::Touch;
 use hm_isa::{Below, OffsetsName, QRegister};
 use hm_kinds::{Shape, Written, finish_row, read, touch_row};
-use hm_lane::{Size, per_word};
+use hm_lane::{Size, per_word, word};
 use hm_lane_fns::{merge_active, word_place};
 use hm_regs::Regs;
 
@@ -127,7 +127,12 @@ fn offsets_word(row: &Steps, m: Option<u32>, o: u32) -> u32
             let o1 = step(row, m, o);
             let o2 = step(row, m, o1);
             let o3 = step(row, m, o2);
-            o % 256 + ((o1 % 256) << 8) + ((o2 % 256) << 16) + ((o3 % 256) << 24)
+            word([
+                (o % 256) as u8,
+                (o1 % 256) as u8,
+                (o2 % 256) as u8,
+                (o3 % 256) as u8,
+            ])
         }
         Size::Half => {
             let o1 = step(row, m, o);
