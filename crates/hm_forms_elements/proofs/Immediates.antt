@@ -1,5 +1,7 @@
 -- Words of the constant of V15 as code makes them.
 use Rattle.std.proofs.Common.{◌≡◌, ℕ, zero, suc, ◌+◌, ◌*◌, ◌%◌, ◌^◌, ◌<◌, [], ◌∷◌, get_or, arith, ◌∙◌}
+use Rattle.hm_lane.specs.declared.lanes.Size.TheVariants.{Byte}
+use Rattle.hm_lane_fns.specs.Words.{splat}
 use Rattle.hm_forms_elements.specs.Constants.{constant_word, ones_where, spread_bits, word_in_turn}
 
 -- ELEMENTS again and again, of one byte
@@ -40,8 +42,8 @@ of_bits x b = turned ∙ half (b % 2) (omega arith)
     half (suc (suc n)) h = absurd (omega arith)
 
 -- BY CM
-pub in_bytes : (cm op x b : ℕ) → cm ≡ 14 → op ≡ 0 → constant_word cm op x b ≡ x + x * 2 ^ 8 + x * 2 ^ 16 + x * 2 ^ 24
-in_bytes cm op x b e f = (λ j. constant_word (e j) (f j) x b) ∙ of_byte x b ∙ omega arith
+pub in_bytes : (cm op x b : ℕ) → cm ≡ 14 → op ≡ 0 → x < 256 → constant_word cm op x b ≡ splat Byte x
+in_bytes cm op x b e f h = (λ j. constant_word (e j) (f j) x b) ∙ of_byte x b ∙ omega arith
 
 pub by_bits : (cm op x b : ℕ) → cm ≡ 14 → op ≡ 1
     → constant_word cm op x b ≡ ones_where x (4 * (b % 2)) + ones_where x (4 * (b % 2) + 1) * 2 ^ 8 + ones_where x (4 * (b % 2) + 2) * 2 ^ 16 + ones_where x

@@ -15,7 +15,8 @@ use hm_beat::Touch;
 use hm_isa::V15;
 use hm_isa::words::imm8;
 use hm_kinds::read;
-use hm_lane_fns::{merge_active, word_place};
+use hm_lane::{Size, word};
+use hm_lane_fns::{merge_active, splat, word_place};
 use hm_regs::Regs;
 
 /// The eight bits of the immediate.
@@ -35,27 +36,10 @@ fn in_byte(x: u32, k: u32) -> u32
     x << (8 * k)
 }
 
-/// A word that has the same in both halves.
-fn twice(x: u32) -> u32
-    requires { x < 0x10000 }
-    ensures { result ≡ x + x * 2 ^ 16 }
-{
-    x + (x << 16)
-}
-
-/// A word that has the same in each byte.
-fn four_times(x: u32) -> u32
-    requires { x < 256 }
-    ensures { result ≡ x + x * 2 ^ 8 + x * 2 ^ 16 + x * 2 ^ 24 }
-{
-    x + (x << 8) + (x << 16) + (x << 24)
-}
-
 /// A byte of ones where bit `j` of `x` is set, and else of zeros.
-fn ones_where(x: u32, j: u32) -> u32
+fn ones_where(x: u32, j: u32) -> u8
     requires { j < 8 }
-    ensures value { result ≡ ones_where x j }
-    ensures below { result < 256 }
+    ensures { result ≡ ones_where x j }
 {
     if (x >> j) % 2 == 1 { 0xff } else { 0 }
 }
@@ -65,11 +49,12 @@ fn spread_bits(x: u32, j: u32) -> u32
     requires { j < 5 }
     ensures { result ≡ ones_where x j + ones_where x (j + 1) * 2 ^ 8 + ones_where x (j + 2) * 2 ^ 16 + ones_where x (j + 3) * 2 ^ 24 }
 {
-    let first = ones_where(x, j);
-    let second = ones_where(x, j + 1);
-    let third = ones_where(x, j + 2);
-    let fourth = ones_where(x, j + 3);
-    first + (second << 8) + (third << 16) + (fourth << 24)
+    word([
+        ones_where(x, j),
+        ones_where(x, j + 1),
+        ones_where(x, j + 2),
+        ones_where(x, j + 3),
+    ])
 }
 
 /// Word `b` of the constant.
@@ -79,12 +64,12 @@ fn constant(row: &V15, b: u8) -> u32
     let x = immediate(row);
     match row.cm.get() {
         cm @ 0..=7 => in_byte(x, cm / 2),
-        cm @ 8..=11 => twice(in_byte(x, cm / 2 - 4)),
+        cm @ 8..=11 => splat(Size::Half, in_byte(x, cm / 2 - 4)),
         12 => (x << 8) + 0xff,
         13 => (x << 16) + 0xffff,
         _ => {
             if row.op.get() == 0 {
-                four_times(x)
+                splat(Size::Byte, x)
             } else {
                 spread_bits(x, 4 * (b as u32 % 2))
             }

@@ -8,7 +8,7 @@ returns-then-get-eq0 c =
     let r = c.args.row.now in
     let mode : r.cm.value ≡ 14 = search rules in
     let plain : r.op.value ≡ 0 = search rules in
-    c.four_times.ensures ∙ sym (in_bytes r.cm.value r.op.value c.immediate-x.result c.args.b mode plain)
+    c.splat-then-get-eq0.ensures ∙ sym (in_bytes r.cm.value r.op.value c.immediate-x.result c.args.b mode plain c.immediate-x.ensures.below)
     ∙ ap (λ x. constant_word r.cm.value r.op.value x c.args.b) c.immediate-x.ensures.value
 
 pub returns-else-get-eq0 : goal.returns-else-get-eq0
