@@ -24,20 +24,14 @@ use hm_regs::Regs;
 fn subtracts(name: CarryName) -> bool
     ensures { result ≡ subtracts name }
 {
-    match name {
-        CarryName::Sbc | CarryName::Sbci => true,
-        _ => false,
-    }
+    matches!(name, CarryName::Sbc | CarryName::Sbci)
 }
 
 /// Whether the first word begins with a carry of its own.
 fn begins(name: CarryName) -> bool
     ensures { result ≡ begins name }
 {
-    match name {
-        CarryName::Adci | CarryName::Sbci => true,
-        _ => false,
-    }
+    matches!(name, CarryName::Adci | CarryName::Sbci)
 }
 
 /// The flags that the carry of beat `b` is read from, or those that the row begins with.
