@@ -96,8 +96,7 @@ fn room_at(address: u32) -> usize
     ensures value { result ≡ room_at address }
     ensures some { (1 ≤ result) × (result ≤ 16) }
 {
-    let left = 65_536 - address % 65_536;
-    if left < 16 { left as usize } else { 16 }
+    (65_536 - address % 65_536).min(16) as usize
 }
 
 /// Where a piece ends that begins at a byte and has so much room.
@@ -109,7 +108,7 @@ fn piece_end(count: usize, at: usize, room: usize) -> usize
     ensures last { result ≤ count }
     ensures short { result ≤ at + 16 }
 {
-    if count - at < room { count } else { at + room }
+    at + room.min(count - at)
 }
 
 /// Adds the lines of the pieces of a segment, behind a base with this upper half. The answer is the upper half behind them.
