@@ -1,14 +1,13 @@
 //! What a beat of a row that loads or stores does.
 
-ghost use Rattle.std.specs.Prelude.{◌≡◌, ℕ, ◌+◌, ◌-◌, ◌*◌, ◌%◌, ◌<◌, ◌≤◌, ◌&&◌, not, eqb, ltb, cond, true, false, List, [], ◌∷◌, ◌++◌, length, map, None, Ok};
+ghost use Rattle.std.specs.Prelude.{◌≡◌, ℕ, ◌+◌, ◌<◌, ◌≤◌, true, false, List, [], ◌∷◌, ◌++◌, length, map, None, Ok};
 ghost use Rattle.std.specs.Prelude.{All, IfSome, IsOk};
 ghost use Rattle.hm_base.specs.Place.{IsPlace};
-ghost use Rattle.hm_base.specs.declared.Place.TheVariants.{P0};
-ghost use Rattle.hm_lane.specs.Predicate.{advance_of, mask_of, mask_place};
+ghost use Rattle.hm_lane.specs.Predicate.{advance_of, mask_of};
 ghost use Rattle.hm_mem.specs.Memory.{Memory, memory_of};
 ghost use Rattle.hm_mem.specs.Seen.{IsSameElsewhere, marks, seen};
 ghost use Rattle.hm_regs.specs.Place.{value_at};
-ghost use Rattle.hm_regs.specs.Writes.{apply, write};
+ghost use Rattle.hm_regs.specs.Writes.{apply};
 ghost use Rattle.hm_state.specs.State.{AreCells, cells, into, state_of};
 ghost use Rattle.hm_state.specs.Store.{put_all};
 ghost use Rattle.hm_beat.specs.Laws.{AnswersBeat, Checks, run};
