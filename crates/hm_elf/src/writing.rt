@@ -87,6 +87,7 @@ fn contents(out: &mut Vec<u8>, image: &Image) -> Result<(), OutOfMemory>
     Ok(())
 }
 
+/// The ELF file of an image of at most 64 segments.
 fn elf_file(alloc: Global, image: &Image) -> Result<Vec<u8>, OutOfMemory>
     requires few { length image.now ≤ 64 }
     ensures { IfOk result (λ bytes. bytes.items ≡ elf_file image.now) }

@@ -70,6 +70,7 @@ fn add_line(alloc: Global, out: &mut Vec<u8>, ticks: &Line) -> Result<(), OutOfM
     text(out, b"\n")
 }
 
+/// Adds the lines of ticks.
 fn add_lines(alloc: Global, out: &mut Vec<u8>, lines: &[Line]) -> Result<(), OutOfMemory>
     ensures { IfOk result (λ _. out.new.items ≡ out.old.items ++ flat_map line (map (λ t. ticks_text (printed t)) (map line_of lines.now))) }
 {

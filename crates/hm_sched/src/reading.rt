@@ -88,10 +88,7 @@ fn region_between(low: &[u8], high: &[u8]) -> Option<(u32, u32)>
 fn read_region(text: &[u8]) -> Option<(u32, u32)>
     ensures { result ≡ region_in text.now }
 {
-    if !text.starts_with(b"region ") {
-        return None;
-    }
-    let (low, from) = span(b' ', &text[7..]);
+    let (low, from) = span(b' ', text.strip_prefix(b"region ")?);
     if from.is_empty() {
         return None;
     }
@@ -114,10 +111,7 @@ fn read_floor_address(digits: &[u8]) -> Option<u32>
 fn read_floor(text: &[u8]) -> Option<u32>
     ensures { result ≡ floor_in text.now }
 {
-    if !text.starts_with(b"floor ") {
-        return None;
-    }
-    read_floor_address(&text[6..])
+    read_floor_address(text.strip_prefix(b"floor ")?)
 }
 
 /// The floor of the process stack, which a fifth line says.
@@ -125,10 +119,7 @@ fn read_floor(text: &[u8]) -> Option<u32>
 fn read_process(text: &[u8]) -> Option<u32>
     ensures { result ≡ process_in text.now }
 {
-    if !text.starts_with(b"process ") {
-        return None;
-    }
-    read_floor_address(&text[8..])
+    read_floor_address(text.strip_prefix(b"process ")?)
 }
 
 /// The floor of the process stack, and what follows its line: in format 1 it has none and is the floor of the main stack.

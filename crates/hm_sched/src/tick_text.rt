@@ -32,12 +32,14 @@ fn read_count(text: &[u8]) -> Result<(u32, &[u8]), LineKind>
     }
 }
 
+/// Whether a byte is a letter of a step.
 fn is_letter(c: u8) -> bool
     ensures { result ≡ is_letter c }
 {
     c == b'O' || c == b'Y' || c == b'W'
 }
 
+/// Whether all bytes are letters of steps.
 fn are_letters(text: &[u8]) -> bool
     ensures { result ≡ list_all is_letter text.now }
 {
@@ -98,10 +100,7 @@ fn read_irq(most: u32, text: &[u8]) -> Option<[u32; 8]>
     if text.is_empty() {
         return Some([0; 8]);
     }
-    if !text.starts_with(b" irq ") {
-        return None;
-    }
-    read_numbers(most, 0, &[0; 8], &text[5..])
+    read_numbers(most, 0, &[0; 8], text.strip_prefix(b" irq ")?)
 }
 
 /// What the text of a line of ticks says, where interrupts are below `most`, or what of it is bad first: the count, the steps or the interrupts.
