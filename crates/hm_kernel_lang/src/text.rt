@@ -1,4 +1,4 @@
-// Texts of the language.
+//! Texts of the language.
 
 ghost use Rattle.std.specs.Prelude.{◌≡◌, ◌≤◌};
 ghost use Rattle.hm_kernel_lang.specs.Language.{bytes};
@@ -19,6 +19,7 @@ impl ElementType {
     pub fn bytes(self) -> u32
         ensures value { result ≡ bytes self }
         ensures few { result ≤ 4 }
+        ensures some { 1 ≤ result }
     {
         match self {
             ElementType::U8 | ElementType::S8 => 1,

@@ -3,7 +3,6 @@
 ghost use Rattle.std.specs.Prelude.{◌≡◌, ◌<◌, ◌≤◌, All, IfOk, IsSomeAnd, OnOk, MatchOption, None, Some, [], length, map, nat_le, option_map};
 ghost use Rattle.std.specs.Prelude.{if◌then◌else◌};
 ghost use Rattle.std.specs.List.{list_all, list_any};
-ghost use Rattle.hm_kernel_lang.specs.Language.{bytes};
 ghost use Rattle.hm_kernel_lang.specs.Texts.{IsSet};
 ghost use Rattle.hm_kernel_text.specs.Words.{is_name, is_numeral, words_behind};
 ghost use Rattle.hm_kernel_text.specs.ReadLine.{array_form, behind_array, bounded_values, by_form, form_in, form_of, is_placed, line_in, set_form, share};
@@ -42,19 +41,6 @@ pub struct Parts<'a> {
     name: &'a [u8],
     third: &'a [u8],
     more: &'a [u8],
-}
-
-/// How many bytes an element of a type has.
-fn bytes(element: ElementType) -> u64
-    ensures value { result ≡ bytes element }
-    ensures few { result ≤ 4 }
-    ensures some { 1 ≤ result }
-{
-    match element {
-        ElementType::U8 | ElementType::S8 => 1,
-        ElementType::U16 | ElementType::S16 => 2,
-        ElementType::U32 | ElementType::S32 => 4,
-    }
 }
 
 /// A line in parts; None where it has fewer words, or the second is no name.
@@ -102,7 +88,7 @@ fn are_numerals(text: &[u8]) -> bool
 fn is_placed(element: ElementType, count: u32, addr: u32) -> bool
     ensures value { result ≡ is_placed element count addr }
 {
-    let size = bytes(element);
+    let size = u64::from(element.bytes());
     if u64::from(addr) % size != 0 {
         return false;
     }
@@ -116,7 +102,7 @@ fn is_placed(element: ElementType, count: u32, addr: u32) -> bool
 fn shares(element: ElementType, count: u32, arrays: &[Array], addr: u32) -> bool
     ensures value { result ≡ list_any (λ a. share element count a.addr addr) (map array_written arrays.now) }
 {
-    let size = bytes(element) * u64::from(count);
+    let size = u64::from(element.bytes()) * u64::from(count);
     for array in arrays {
         if u64::from(array.addr) < u64::from(addr) + size
             && u64::from(addr) < u64::from(array.addr) + size

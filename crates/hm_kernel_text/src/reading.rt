@@ -62,10 +62,9 @@ fn read_type(text: &[u8]) -> Option<ElementType>
 fn read_length(text: &[u8]) -> Result<u32, KernelKind>
     ensures value { Reads (λ n. n) result (length_in text.now) }
 {
-    if !text.starts_with(b"length ") {
+    let Some(word) = text.strip_prefix(b"length ") else {
         return Err(KernelKind::Syntax);
-    }
-    let word = &text[7..];
+    };
     if !is_numeral(word) {
         return Err(KernelKind::Syntax);
     }
@@ -107,6 +106,7 @@ fn with_lines(alloc: Global, x: Text, text: &[u8]) -> Result<Text, KernelErr>
     Ok(x)
 }
 
+/// What the bytes of a text say.
 #[tactic(auto, unfolding(crate::specs::ReadFile::kernel_in))]
 fn read_text(alloc: Global, text: &[u8]) -> Result<Text, KernelErr>
     ensures read { Gives written result (kernel_in text.now) }
