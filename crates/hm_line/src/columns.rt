@@ -7,7 +7,8 @@ ghost use Rattle.hm_line.specs.Texts.{column};
 ghost use Rattle.hm_tokens.specs.Tokens.{skip, tok};
 
 use crate::reading::column;
-use hm_tokens::{Mark, Token, skip, token_at};
+use crate::tokens::next_token;
+use hm_tokens::{Mark, Token, skip};
 
 /// Whether what stands behind a token stands in brackets or braces.
 fn is_inside(inside: bool, token: Token<'_>) -> bool
@@ -47,12 +48,12 @@ pub fn operand_column(text: &[u8], n: u32) -> Option<u32>
     ensures found { IfSome result (λ c. (here : List ℕ) × IsOperand text.now n here × (c ≡ column text.now (skip here))) }
     ensures only { (here : List ℕ) → IsOperand text.now n here → result ≡ Some (column text.now (skip here)) }
 {
-    let (_first_word, behind) = token_at(skip(text))?;
+    let (_first_word, behind) = next_token(text)?;
     let mut left = n;
     let mut inside = false;
     let mut rest = behind;
     while left > 0 {
-        let (token, after) = token_at(skip(rest))?;
+        let (token, after) = next_token(rest)?;
         left = left_behind(left, inside, token);
         inside = is_inside(inside, token);
         rest = after;

@@ -20,7 +20,7 @@ fn more_tokens<'a>(first: Token<'a>, text: &'a [u8]) -> Option<Tokens<'a>>
     tokens.push(first);
     let mut rest = text;
     while !rest.is_empty() {
-        if tokens.len() == 40 {
+        if tokens.is_full() {
             return None;
         }
         let (token, after) = token_at(rest)?;
