@@ -47,13 +47,7 @@ pub struct InstrText {
 fn behind<'a>(word: &'a [u8], piece: &str) -> Option<&'a [u8]>
     ensures rest { option_map (λ rest. rest.now) result ≡ behind piece.now word.now }
 {
-    let piece = piece.as_bytes();
-    if word.starts_with(piece) {
-        let (_front, rest) = word.split_at(piece.len());
-        Some(rest)
-    } else {
-        None
-    }
+    word.strip_prefix(piece.as_bytes())
 }
 
 /// Whether a token is this part.
