@@ -3,10 +3,10 @@
 ghost use Rattle.std.specs.Prelude.{◌≡◌, if◌then◌else◌};
 ghost use Rattle.hm_line.specs.Kinds.{kind};
 ghost use Rattle.hm_line.specs.Steps.{behind_address, behind_first_word, behind_hash, behind_item, behind_item_word, behind_label_or_word, behind_lane};
-ghost use Rattle.hm_line.specs.Steps.{behind_operand, behind_word, first_operand, is_line_end, is_number, is_word, line_step, operand_step};
+ghost use Rattle.hm_line.specs.Steps.{behind_operand, behind_word, first_operand, is_line_end, is_word, line_step, operand_step};
 ghost use Rattle.hm_tokens.specs.Tokens.{tok};
 
-use hm_tokens::{Mark, Token};
+use hm_tokens::{Mark, Token, is_number};
 
 /// What a text is read as.
 #[derive(Clone, Copy)]
@@ -183,16 +183,6 @@ fn only_if<T: Drop>(holds: bool, next: T) -> Option<T>
     ensures { result ≡ (if holds then Some next else None) }
 {
     if holds { Some(next) } else { None }
-}
-
-/// Whether a token is a number.
-fn is_number(token: Token<'_>) -> bool
-    ensures { result ≡ is_number (kind (tok token.entry)) }
-{
-    match token {
-        Token::Number(_) => true,
-        Token::Word(_) | Token::Mark(_) => false,
-    }
 }
 
 /// What a token of the operands leads to.

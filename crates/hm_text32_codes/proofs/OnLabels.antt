@@ -24,10 +24,10 @@ use Rattle.hm_tokens.proofs.Addresses.{ends_in_mark}
 use Rattle.hm_tokens.proofs.Again.{are_apart}
 use Rattle.hm_tokens.proofs.Ranges.{has_no_ranges}
 use Rattle.hm_tokens.specs.Names.{register_name}
-use Rattle.hm_tokens.specs.Tokens.{Tok, word, number, mark, comma}
+use Rattle.hm_tokens.specs.Tokens.{Tok, word, number, mark, comma, is_number}
 use Rattle.hm_text_rows.specs.Labels.{IsLabel, behind, distance}
 use Rattle.hm_text_rows.specs.Mnemonics.{branch_mnemonic, element_suffix}
-use Rattle.hm_text_rows.specs.Operands.{bits_of, braced, is_number, is_vector_name, size_of}
+use Rattle.hm_text_rows.specs.Operands.{bits_of, braced, is_vector_name, size_of}
 use Rattle.hm_text_rows.specs.Shapes.{r}
 use Rattle.hm_text_rows.proofs.Printed.{AreShort, IsShort, is_printed_at, room, short_comma, short_word}
 use Rattle.hm_text_rows.proofs.Branches.{distance_back, mnemonic_branch}

@@ -28,10 +28,10 @@ use Rattle.hm_isa.specs.Code.{wide_code}
 use Rattle.hm_isa.specs.Standing.{◌↑◌}
 use Rattle.hm_isa.specs.SystemCodes.{written_base}
 use Rattle.hm_isa.specs.Words.{imm12, imm16, imm5, is_by_carry, shift_number}
-use Rattle.hm_tokens.specs.Tokens.{Tok}
+use Rattle.hm_tokens.specs.Tokens.{Tok, is_number}
 use Rattle.hm_text_rows.specs.Labels.{IsLabel, Reaches}
 use Rattle.hm_text_rows.specs.Mnemonics.{access_mnemonic, branch_mnemonic, extend_mnemonic}
-use Rattle.hm_text_rows.specs.Operands.{is_number, is_vector}
+use Rattle.hm_text_rows.specs.Operands.{is_vector}
 use Rattle.hm_text32_rows.specs.Mnemonics.{accumulate_mnemonic, barrier_mnemonic, bits_mnemonic, extract_mnemonic}
 use Rattle.hm_text32_rows.specs.Mnemonics.{half_mnemonic, long_mnemonic, operation_mnemonic, pair_mnemonic, saturate_mnemonic}
 use Rattle.hm_text32_rows.specs.Mnemonics.{select_mnemonic, stack_mnemonic, table_mnemonic, wide_branch_mnemonic}

@@ -6,9 +6,9 @@ use Rattle.hm_isa.specs.SystemCodes.{read_base}
 use Rattle.hm_text_base.specs.Spans.{span}
 use Rattle.hm_tokens.specs.declared.marks.Mark.TheVariants as marks
 use Rattle.hm_tokens.specs.Names.{condition_in, double_in, register_in, vector_in}
-use Rattle.hm_tokens.specs.Tokens.{Tok, word, number, is_the_mark, point}
+use Rattle.hm_tokens.specs.Tokens.{Tok, word, number, is_number, is_the_mark, point}
 use Rattle.hm_text_rows.specs.Names.{named}
-use Rattle.hm_text_rows.specs.Operands.{added, back_in, before, bits_of, braced, first_of, first_word, is_number, is_vector, operand, size_of, value_by}
+use Rattle.hm_text_rows.specs.Operands.{added, back_in, before, bits_of, braced, first_of, first_word, is_vector, operand, size_of, value_by}
 use Rattle.hm_text32_rows.specs.Mnemonics.{carry_mnemonic, read_name, shift_mnemonic}
 use Rattle.hm_text32_codes.specs.declared.operands.Operands.{Operands}
 use Rattle.hm_text32_codes.specs.Names.{shift_numbers, special_names}

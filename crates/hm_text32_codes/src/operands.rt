@@ -5,10 +5,11 @@ ghost use Rattle.hm_text32_codes.specs.Operands.{other_wide_word_value, read_wid
 ghost use Rattle.hm_tokens.specs.Tokens.{tok};
 
 use hm_text_rows::{
-    added, back_in, before, braced_bits, first_of, is_number, is_the_mark, is_vector, named,
-    operand, size_of, value_by,
+    added, back_in, before, braced_bits, first_of, is_vector, named, operand, size_of, value_by,
 };
-use hm_tokens::{Mark, Token, read_condition, read_double, read_register, read_vector};
+use hm_tokens::{
+    Mark, Token, is_number, is_the_mark, read_condition, read_double, read_register, read_vector,
+};
 
 /// What stands behind a mnemonic, as numbers.
 #[derive(Clone, Copy)]

@@ -41,12 +41,6 @@ is_vector (word w) = is_vector_name w
 is_vector (number n) = false
 is_vector (mark c) = false
 
--- whether a token is a number
-abbrev pub is_number : Tok → Bool
-is_number (word w) = false
-is_number (number n) = true
-is_number (mark c) = false
-
 -- the number that a token stands for, by that of a word: a number itself, at most 2^32 - 1, and 0 of a mark
 abbrev pub value_by : (List ℕ → ℕ) → Tok → ℕ
 value_by of_word (word w) = of_word w

@@ -15,8 +15,8 @@ pub use lists::{is_listed, with_list};
 pub use mnemonics::{access_mnemonic, element_suffix, extend_mnemonic};
 pub use names::{access_name, extend_name, named};
 pub use operands::{
-    added, back_in, before, braced_bits, branch_condition_in, first_of, first_word, is, is_number,
-    is_the_mark, is_vector, operand, size_of, token_behind, value_by,
+    added, back_in, before, braced_bits, branch_condition_in, first_of, first_word, is, is_vector,
+    operand, size_of, token_behind, value_by,
 };
 pub use shapes::{
     alone, and, and_any_shift, and_constant, and_shift, first, four, marked, one, or_zero, q, r,

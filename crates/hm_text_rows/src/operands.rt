@@ -1,11 +1,11 @@
 //! What a text gives numbers for, read without a refusal, since the row that is found is asked for its text.
 
 ghost use Rattle.std.specs.Prelude.{◌≡◌, ◌≤◌, ℕ, List, bytes_eq, map};
-ghost use Rattle.hm_text_rows.specs.Operands.{added, back_in, before, bit_in, bits_of, braced, branch_condition_in, first_of, first_word, is_number};
+ghost use Rattle.hm_text_rows.specs.Operands.{added, back_in, before, bit_in, bits_of, braced, branch_condition_in, first_of, first_word};
 ghost use Rattle.hm_text_rows.specs.Operands.{is_vector, is_vector_name, operand, size_of, token_behind, token_bit, value_by};
-ghost use Rattle.hm_tokens.specs.Tokens.{is_the_mark, tok};
+ghost use Rattle.hm_tokens.specs.Tokens.{tok};
 
-use hm_tokens::{Mark, Token, read_condition, read_register, read_vector};
+use hm_tokens::{Mark, Token, is_the_mark, read_condition, read_register, read_vector};
 
 /// Whether a word is this one.
 pub fn is(word: &[u8], name: &str) -> bool
@@ -51,16 +51,6 @@ pub fn is_vector(token: Token<'_>) -> bool
     }
 }
 
-/// Whether a token is a number.
-pub fn is_number(token: Token<'_>) -> bool
-    ensures value { result ≡ is_number (tok token.entry) }
-{
-    match token {
-        Token::Number(_) => true,
-        Token::Word(_) | Token::Mark(_) => false,
-    }
-}
-
 /// The number that a token stands for, by that of a word: a number itself, at most 2^32 - 1, and 0 of a mark.
 pub fn value_by<F: Fn(&[u8]) -> u32>(of_word: F, token: Token<'_>) -> u32
     requires { F.IsAlwaysCallable of_word }
@@ -101,16 +91,6 @@ pub fn size_of(suffix: &[u8]) -> u32
         b'2' => 2,
         b'4' => 3,
         _ => 0,
-    }
-}
-
-/// Whether a token is this mark.
-pub fn is_the_mark(token: Token<'_>, mark: Mark) -> bool
-    ensures value { result ≡ is_the_mark mark (tok token.entry) }
-{
-    match token {
-        Token::Mark(which) => which == mark,
-        Token::Word(_) | Token::Number(_) => false,
     }
 }
 

@@ -1,6 +1,6 @@
 -- Tokens of assembly text, and the longest at the front of a text.
-use Rattle.std.specs.Prelude.{ℕ, Bool, false, ◌+◌, ◌-◌, ◌*◌, min, List, [], ◌∷◌, length, slice_index, drop, decimal, Option, Some, None, ◌==◌, nat_le, nat_lt}
-use Rattle.std.specs.Prelude.{◌&&◌, ◌||◌, if◌then◌else◌}
+use Rattle.std.specs.Prelude.{ℕ, Bool, true, false, ◌+◌, ◌-◌, ◌*◌, min, List, [], ◌∷◌, length, slice_index, drop, decimal, Option, Some, None}
+use Rattle.std.specs.Prelude.{◌==◌, nat_le, nat_lt, ◌&&◌, ◌||◌, if◌then◌else◌}
 use Rattle.hm_text_base.specs.Marks.{space}
 use Rattle.hm_tokens.specs.declared.marks.Mark.{Mark}
 use Rattle.hm_tokens.specs.declared.marks.Mark.TheVariants as marks
@@ -55,6 +55,12 @@ plus_mark = mark_token marks.Plus
 -- before a number that is taken away, and inside a range of registers
 abbrev pub minus_mark : Tok
 minus_mark = mark_token marks.Minus
+
+-- whether a token is a number
+abbrev pub is_number : Tok → Bool
+is_number (word w) = false
+is_number (number n) = true
+is_number (mark c) = false
 
 -- whether a token is this mark
 abbrev pub is_the_mark : Mark → Tok → Bool

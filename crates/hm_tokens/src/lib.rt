@@ -16,4 +16,4 @@ pub use names::{
     read_vector, register_name, vector_name,
 };
 pub use text::{InstrText, Part};
-pub use token::{Token, skip, token_at};
+pub use token::{Token, is_number, is_the_mark, skip, token_at};

@@ -1,14 +1,13 @@
 //! Registers in braces: a range, as `r0-r3`, stands for each of them.
 
 ghost use Rattle.std.specs.Prelude.{◌≡◌, ◌<◌, ◌≤◌, ◌+◌, ◌++◌, ◌∷◌, [], true, false, length, map, IfNone, IfSome};
-ghost use Rattle.hm_tokens.specs.declared.marks.Mark.TheVariants as marks;
 ghost use Rattle.hm_tokens.specs.Ranges.{is_inside, is_rising, last_register, normal, range_tokens, register_of, rising, singles};
-ghost use Rattle.hm_tokens.specs.Tokens.{is_the_mark, tok};
+ghost use Rattle.hm_tokens.specs.Tokens.{tok};
 
 use crate::line::Tokens;
 use crate::marks::Mark;
 use crate::names::{read_register, register_name};
-use crate::token::Token;
+use crate::token::{Token, is_the_mark};
 use arrayvec::ArrayVec;
 
 /// The register that a token names.
@@ -22,16 +21,6 @@ fn register_of(token: Token<'_>) -> Option<u32>
     }
 }
 
-/// Whether a token is `-`.
-fn is_minus(token: Token<'_>) -> bool
-    ensures value { result ≡ is_the_mark marks.Minus (tok token.entry) }
-{
-    match token {
-        Token::Mark(mark) => mark == Mark::Minus,
-        Token::Word(_) | Token::Number(_) => false,
-    }
-}
-
 /// The register behind a `-`.
 fn last_register(tokens: &[Token<'_>]) -> Option<u32>
     ensures value { result ≡ last_register (map tok tokens.now) }
@@ -41,7 +30,7 @@ fn last_register(tokens: &[Token<'_>]) -> Option<u32>
         [] => None,
         [_] => None,
         [first, second, ..] => {
-            if is_minus(*first) {
+            if is_the_mark(*first, Mark::Minus) {
                 register_of(*second)
             } else {
                 None

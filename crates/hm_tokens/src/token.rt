@@ -2,7 +2,7 @@
 
 ghost use Rattle.std.specs.Prelude.{◌≡◌, ◌≤◌, ◌^◌, ◌+◌, length, IfSome, Some};
 ghost use Rattle.hm_tokens.specs.declared.token.Class.TheVariants as classes;
-ghost use Rattle.hm_tokens.specs.Tokens.{Tok, tok, is_in, run, digit, value, skip, is_hex, number_token, word_token, token_at};
+ghost use Rattle.hm_tokens.specs.Tokens.{Tok, tok, is_in, run, digit, value, skip, is_hex, is_number, is_the_mark, number_token, word_token, token_at};
 ghost use Rattle.hm_text_base.specs.Reading.{ReadsSome};
 
 use crate::marks::Mark;
@@ -131,6 +131,26 @@ pub fn token_at(text: &[u8]) -> Option<(Token<'_>, &[u8])>
     match Mark::of(c) {
         Some(mark) => Some((Token::Mark(mark), &text[1..])),
         None => None,
+    }
+}
+
+/// Whether a token is a number.
+pub fn is_number(token: Token<'_>) -> bool
+    ensures value { result ≡ is_number (tok token.entry) }
+{
+    match token {
+        Token::Number(_) => true,
+        Token::Word(_) | Token::Mark(_) => false,
+    }
+}
+
+/// Whether a token is this mark.
+pub fn is_the_mark(token: Token<'_>, mark: Mark) -> bool
+    ensures value { result ≡ is_the_mark mark (tok token.entry) }
+{
+    match token {
+        Token::Mark(which) => which == mark,
+        Token::Word(_) | Token::Number(_) => false,
     }
 }
 
