@@ -14,30 +14,6 @@ ghost use Rattle.hm_isa.specs.MemoryRules.{is_access, is_at_addresses, is_at_off
 use hm_code_fields::{bit, bits, q_register, size_at};
 use hm_isa::{Below, Bit, ElementSize, QRegister, Register, V24, V25, V26, V27, V28, Vector};
 
-/// How an offset is used, as the letters of the rows V24 and V25.
-#[derive(Clone, Copy)]
-struct Index {
-    /// Whether it goes to the address of the access.
-    p: Bit,
-    /// Whether it is added.
-    a: Bit,
-    /// Whether the base gets the address with it.
-    w: Bit,
-}
-
-/// How an offset is used, in the bits 24, 23 and 21 of w.
-fn read_index(w: u32) -> Index
-    ensures before { result.p.value ≡ w / 2 ^ 24 % 2 }
-    ensures added { result.a.value ≡ w / 2 ^ 23 % 2 }
-    ensures back { result.w.value ≡ w / 2 ^ 21 % 2 }
-{
-    Index {
-        p: bit(w, 24),
-        a: bit(w, 23),
-        w: bit(w, 21),
-    }
-}
-
 /// How an offset is used, where it stands in a code.
 fn place_index(p: Bit, a: Bit, w: Bit) -> u32
     ensures value { result ≡ p.value * 2 ^ 24 + a.value * 2 ^ 23 + w.value * 2 ^ 21 }
@@ -57,19 +33,21 @@ fn decode_v24(w: u32) -> Option<V24>
     ensures found { IfSome result (λ r. code_v24 r ≡ w) }
     ensures none { IfNone result ((r : V24) → code_v24 r ≡ w → ⊥) }
 {
-    let index = read_index(w);
+    let p = bit(w, 24);
+    let a = bit(w, 23);
+    let written_back = bit(w, 21);
     let l = bit(w, 20);
     let n = Below::new(bits(w, 16, 4));
     let d = q_register(w, 13);
     let z = size_at(w, 7)?;
     let i = Below::new(bits(w, 0, 7));
-    if !may_be_contiguous(index.p, index.w, n) {
+    if !may_be_contiguous(p, written_back, n) {
         return None;
     }
     let r = V24 {
-        p: index.p,
-        a: index.a,
-        w: index.w,
+        p,
+        a,
+        w: written_back,
         l,
         n,
         d,
@@ -108,21 +86,23 @@ fn decode_v25(w: u32) -> Option<V25>
     ensures none { IfNone result ((r : V25) → code_v25 r ≡ w → ⊥) }
 {
     let u = bit(w, 28);
-    let index = read_index(w);
+    let p = bit(w, 24);
+    let a = bit(w, 23);
+    let written_back = bit(w, 21);
     let l = bit(w, 20);
     let h = bit(w, 19);
     let n = Below::new(bits(w, 16, 3));
     let d = q_register(w, 13);
     let z = size_at(w, 7)?;
     let i = Below::new(bits(w, 0, 7));
-    if !may_be_widening(u, index.p, index.w, l, h, z) {
+    if !may_be_widening(u, p, written_back, l, h, z) {
         return None;
     }
     let r = V25 {
         u,
-        p: index.p,
-        a: index.a,
-        w: index.w,
+        p,
+        a,
+        w: written_back,
         l,
         h,
         n,
