@@ -151,9 +151,7 @@ fn decode_s5(h: u16) -> Option<S5>
     ensures none { IfNone result ((r : S5) → code_s5 r ≡ h → ⊥) }
 {
     let w = h as u32;
-    let Some(name) = logic_name(w >> 6) else {
-        return None;
-    };
+    let name = logic_name(w >> 6)?;
     Some(S5 {
         name,
         m: Below::new((w >> 3) & 7),
@@ -335,9 +333,7 @@ fn decode_s15(h: u16) -> Option<S15>
     ensures none { IfNone result ((r : S15) → code_s15 r ≡ h → ⊥) }
 {
     let w = h as u32;
-    let Some(name) = access_name(w >> 9) else {
-        return None;
-    };
+    let name = access_name(w >> 9)?;
     Some(S15 {
         name,
         m: Below::new((w >> 6) & 7),
