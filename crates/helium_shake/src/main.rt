@@ -9,7 +9,6 @@ mod words;
 use hm_commands::{Status, words_of};
 use hm_host::OsHost;
 use hm_shake::Progress;
-use hm_shake_runs::Kind;
 use std::process::ExitCode;
 use top::helium_shake;
 
@@ -36,7 +35,7 @@ impl Progress for Reporter {
         }
     }
 
-    fn shortening(&mut self, _kind: Kind, interrupts: usize) {
+    fn shortening(&mut self, interrupts: usize) {
         if self.tries % TRIES_APART == 0 {
             let _told = eprintln!(self.rt;
                 "helium-shake: a schedule of {interrupts} interrupts is made shorter"

@@ -27,7 +27,7 @@ impl Progress for Quiet {
         self.runs = self.runs.saturating_add(1);
     }
 
-    fn shortening(&mut self, _kind: Kind, _interrupts: usize) {
+    fn shortening(&mut self, _interrupts: usize) {
         self.tries = self.tries.saturating_add(1);
     }
 }

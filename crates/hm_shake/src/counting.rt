@@ -16,7 +16,7 @@ ghost use Rattle.hm_shake_runs.specs.Shaken.{shaken_schedule};
 use crate::ended::is_halted;
 use crate::repeats::Repeater;
 use hm_base::OutOfMemory;
-use hm_shake_runs::{Ended, Found, Head, Kind, Plan, Tally, shaken};
+use hm_shake_runs::{Ended, Found, Head, Plan, Tally, shaken};
 use std::alloc::Global;
 
 /// Who is told how far a shake is.
@@ -24,8 +24,8 @@ pub trait Progress {
     /// So many runs of all are done; it is told after each run.
     fn done(&mut self, runs: u32, all: u32);
 
-    /// A schedule of this kind of outcome is made shorter, and has so many interrupts left; it is told before each try.
-    fn shortening(&mut self, kind: Kind, interrupts: usize);
+    /// A schedule is made shorter, and has so many interrupts left; it is told before each try.
+    fn shortening(&mut self, interrupts: usize);
 }
 
 /// What is shaken: the head of all schedules, the interrupts that are drawn from, and from what the schedules are made.

@@ -16,4 +16,4 @@ pub use naming::{add_name, names_law};
 pub use repeats::Repeater;
 pub use shaking::{Findings, shake};
 pub use shrinking::shrink;
-pub use texts::{add_kind, counts_text};
+pub use texts::counts_text;

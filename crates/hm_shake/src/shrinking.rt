@@ -79,7 +79,7 @@ fn thinned<P: Progress>(
     let mut left = interrupts_in(&best);
     let mut kept = 0;
     while kept < left {
-        progress.shortening(kind, left);
+        progress.shortening(left);
         match shorter(alloc, repeater, head, kind, &best, kept, size)? {
             Some(fewer) => {
                 left = interrupts_in(&fewer);
@@ -117,7 +117,7 @@ fn without_one<P: Progress>(
 {
     let left = interrupts_in(stretches);
     for kept in 0..left {
-        progress.shortening(kind, left);
+        progress.shortening(left);
         let fewer = shorter(alloc, repeater, head, kind, stretches, kept, 1)?;
         if fewer.is_some() {
             return Ok(fewer);
