@@ -11,7 +11,7 @@ use hm_base::FLASH_SIZE;
 use hm_text_base::{read_hex8, read_number, read_word};
 
 /// The largest number of ticks that a word may give.
-const MOST: u32 = 16_777_216;
+const MOST_TICKS: u32 = 16_777_216;
 
 /// The largest number of instructions that may be planned.
 const MOST_PLANNED: u32 = 262_144;
@@ -21,7 +21,7 @@ fn read_ticks(word: &[u8]) -> Option<Ticks>
     ensures value { option_map (λ ticks. ticks.count) result ≡ number_of most word.now }
 {
     let count = read_number(word)?;
-    if count > MOST {
+    if count > MOST_TICKS {
         return None;
     }
     Some(Ticks { count })
@@ -32,7 +32,7 @@ fn read_every(word: &[u8]) -> Option<Every>
     ensures value { option_map (λ every. every.ticks) result ≡ every_of word.now }
 {
     let ticks = read_number(word)?;
-    if ticks > MOST {
+    if ticks > MOST_TICKS {
         return None;
     }
     if ticks == 0 {
@@ -65,6 +65,7 @@ pub fn read_source(word: &str) -> Option<Source<'_>>
     }
 }
 
+/// The words behind `run`: an image, a schedule, and the file that its memory is written to.
 fn run_command<'a>(words: &'a [String]) -> Option<Command<'a>>
     ensures value { option_map meant result ≡ run_form (map string_bytes words.now) }
 {
@@ -81,6 +82,7 @@ fn run_command<'a>(words: &'a [String]) -> Option<Command<'a>>
     }
 }
 
+/// The words behind `seq`: an image, and a number of instructions.
 fn seq_command<'a>(words: &'a [String]) -> Option<Command<'a>>
     ensures value { option_map meant result ≡ seq_form (map string_bytes words.now) }
 {
@@ -113,6 +115,7 @@ fn read_range(lo: &[u8], hi: &[u8]) -> Option<Range>
     make_range(lo, hi)
 }
 
+/// The words behind `dis`: an image, and the two ends of a range of flash.
 fn dis_command<'a>(words: &'a [String]) -> Option<Command<'a>>
     ensures value { option_map meant result ≡ dis_form (map string_bytes words.now) }
 {
@@ -125,6 +128,7 @@ fn dis_command<'a>(words: &'a [String]) -> Option<Command<'a>>
     }
 }
 
+/// The words behind `asm`: a source, and the file that its image is written to.
 fn asm_command<'a>(words: &'a [String]) -> Option<Command<'a>>
     ensures value { option_map meant result ≡ asm_form (map string_bytes words.now) }
 {
@@ -134,6 +138,7 @@ fn asm_command<'a>(words: &'a [String]) -> Option<Command<'a>>
     }
 }
 
+/// The words behind `soak`: its number.
 fn soak_command<'a>(words: &'a [String]) -> Option<Command<'a>>
     ensures value { option_map meant result ≡ soak_form (map string_bytes words.now) }
 {
@@ -146,6 +151,7 @@ fn soak_command<'a>(words: &'a [String]) -> Option<Command<'a>>
     }
 }
 
+/// The words behind `debug`: an image, a schedule, and a script.
 fn debug_command<'a>(words: &'a [String]) -> Option<Command<'a>>
     ensures value { option_map meant result ≡ debug_form (map string_bytes words.now) }
 {
@@ -162,6 +168,7 @@ fn debug_command<'a>(words: &'a [String]) -> Option<Command<'a>>
     }
 }
 
+/// The words behind `journal`: an image, a schedule, a distance in ticks, and the file that the journal is written to.
 fn journal_command<'a>(words: &'a [String]) -> Option<Command<'a>>
     ensures value { option_map meant result ≡ journal_form (map string_bytes words.now) }
 {
@@ -180,6 +187,7 @@ fn journal_command<'a>(words: &'a [String]) -> Option<Command<'a>>
     }
 }
 
+/// The words behind `replay`: an image, a schedule, a journal, and the tick whose report is printed.
 fn replay_command<'a>(words: &'a [String]) -> Option<Command<'a>>
     ensures value { option_map meant result ≡ replay_form (map string_bytes words.now) }
 {
@@ -198,6 +206,7 @@ fn replay_command<'a>(words: &'a [String]) -> Option<Command<'a>>
     }
 }
 
+/// The words behind `migrate`: an image, a schedule, a journal, and the file that the run's journal is written to.
 fn migrate_command<'a>(words: &'a [String]) -> Option<Command<'a>>
     ensures value { option_map meant result ≡ migrate_form (map string_bytes words.now) }
 {
@@ -215,6 +224,7 @@ fn migrate_command<'a>(words: &'a [String]) -> Option<Command<'a>>
     }
 }
 
+/// The words behind `plan`: an image, a number of instructions, and the file that the schedule is written to.
 fn plan_command<'a>(words: &'a [String]) -> Option<Command<'a>>
     ensures value { option_map meant result ≡ plan_form (map string_bytes words.now) }
 {
@@ -227,6 +237,7 @@ fn plan_command<'a>(words: &'a [String]) -> Option<Command<'a>>
     }
 }
 
+/// The words behind `hex`: an image, and the file that it is written to.
 fn hex_command<'a>(words: &'a [String]) -> Option<Command<'a>>
     ensures value { option_map meant result ≡ hex_form (map string_bytes words.now) }
 {
@@ -236,6 +247,7 @@ fn hex_command<'a>(words: &'a [String]) -> Option<Command<'a>>
     }
 }
 
+/// The words behind `kernel`: a text of the array language, and the file that its image is written to.
 fn kernel_command<'a>(words: &'a [String]) -> Option<Command<'a>>
     ensures value { option_map meant result ≡ kernel_form (map string_bytes words.now) }
 {
