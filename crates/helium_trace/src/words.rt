@@ -6,7 +6,7 @@ ghost use Rattle.helium_trace.specs.Words.{asked_in, asked_of, meant, range_in, 
 use hm_sched::MOST_TICKS;
 use hm_text_base::read_number;
 use hm_trace::Ticks;
-use hm_words::{Source, read_source};
+use hm_words::{Source, read_source, run_reads};
 use std::alloc::{AllocError, Global};
 
 /// The most ticks that one call shows.
@@ -82,11 +82,6 @@ impl<'a> Command<'a> {
     pub fn reads(&self, alloc: Global) -> Result<Vec<&'a str>, AllocError>
         ensures names { IfOk result (λ names. map (λ name. name.now) names.items ≡ reads_of (meant self.now)) }
     {
-        let mut names = Vec::new(alloc);
-        names.push(self.image)?;
-        if let Source::File(name) = self.schedule {
-            names.push(name)?;
-        }
-        Ok(names)
+        run_reads(alloc, self.image, &self.schedule)
     }
 }

@@ -102,8 +102,8 @@ fn add_source<'a>(names: &mut Vec<&'a str>, schedule: &Source<'a>) -> Result<(),
     }
 }
 
-/// The files of a run: its image, and the file of its schedule.
-fn run_reads<'a>(
+/// The files of a run: its image, and the file of its schedule, where it has one.
+pub fn run_reads<'a>(
     alloc: Global,
     image: &'a str,
     schedule: &Source<'a>,

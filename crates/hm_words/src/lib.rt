@@ -6,7 +6,7 @@ mod laws;
 mod numbers;
 mod words;
 
-pub use command::{Command, Source};
+pub use command::{Command, Source, run_reads};
 pub use laws::words_of_commands;
 pub use numbers::{Every, Planned, Range, Ticks};
 pub use words::{parse, read_source};
