@@ -44,10 +44,10 @@ pub fn register_lines(
 ) -> Result<(), OutOfMemory>
     ensures { IfOk result (λ _. out.new.items ≡ register_lines regs.now position.a position.b out.old.items) }
 {
-    low_lines(alloc, out, &regs.r, 13)?;
+    low_lines(alloc, out, &regs.r)?;
     pointer_lines(out, regs)?;
     position_line(alloc, out, position)?;
     flags_line(out, regs)?;
     special_lines(out, regs)?;
-    vector_lines(alloc, out, &regs.qw, 8)
+    vector_lines(alloc, out, &regs.qw)
 }

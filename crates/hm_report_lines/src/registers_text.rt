@@ -20,17 +20,11 @@ pub fn next_word(out: &mut Vec<u8>, x: u32) -> Result<(), OutOfMemory>
     hex8(out, x)
 }
 
-/// Adds the lines of the first `count` of r0 to r12, of which `r` has as many at least.
-pub fn low_lines(
-    alloc: Global,
-    out: &mut Vec<u8>,
-    r: &[u32],
-    count: usize,
-) -> Result<(), OutOfMemory>
-    requires { count ≤ length r.now }
-    ensures { IfOk result (λ _. out.new.items ≡ low_lines count r.now out.old.items) }
+/// Adds the lines of r0 to r12.
+pub fn low_lines(alloc: Global, out: &mut Vec<u8>, r: &[u32; 13]) -> Result<(), OutOfMemory>
+    ensures { IfOk result (λ _. out.new.items ≡ low_lines 13 r.now out.old.items) }
 {
-    for k in 0..count {
+    for k in 0..13_usize {
         number_text(alloc, out, b"r", k as u64)?;
         next_word(out, r[k])?;
         text(out, b"\n")?;
@@ -124,17 +118,11 @@ fn vector_line(alloc: Global, out: &mut Vec<u8>, k: usize, words: &[u32]) -> Res
     text(out, b"\n")
 }
 
-/// Adds the lines of the first `count` vector registers, of each of which `words` has four words, the lowest first.
-pub fn vector_lines(
-    alloc: Global,
-    out: &mut Vec<u8>,
-    words: &[u32],
-    count: usize,
-) -> Result<(), OutOfMemory>
-    requires { 4 * count ≤ length words.now }
-    ensures { IfOk result (λ _. out.new.items ≡ vector_lines count words.now out.old.items) }
+/// Adds the lines of the vector registers, of each of which `words` has four words, the lowest first.
+pub fn vector_lines(alloc: Global, out: &mut Vec<u8>, words: &[u32; 32]) -> Result<(), OutOfMemory>
+    ensures { IfOk result (λ _. out.new.items ≡ vector_lines 8 words.now out.old.items) }
 {
-    for k in 0..count {
+    for k in 0..8_usize {
         vector_line(alloc, out, k, words)?;
     }
     Ok(())
