@@ -144,10 +144,8 @@ fn conclude<H: Host>(
 {
     match found {
         Ok(findings) => tell(alloc, schedule, &findings, host),
-        Err(stop) => match stop {
-            Stop::Refused(why) => say_refused(alloc, why, host),
-            Stop::NoMemory => Status::NoMemory,
-        },
+        Err(Stop::Refused(why)) => say_refused(alloc, why, host),
+        Err(Stop::NoMemory) => Status::NoMemory,
     }
 }
 
