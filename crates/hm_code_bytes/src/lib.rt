@@ -1,14 +1,16 @@
-//! Codes of instructions as bytes: halfwords one behind another, each with its low byte first; and instructions of programs that are
-//! generated.
+//! Codes of instructions as bytes: halfwords one behind another, each with its low byte first; and instructions and images of programs that
+//! are generated.
 #![tactic(auto)]
 
 ghost use Rattle.std.specs.Prelude.{◌≡◌, ◌++◌, [], ◌∷◌, IfOk};
 ghost use Rattle.hm_code_bytes.specs.Bytes.{code_bytes, half_bytes, word_bytes};
 ghost use Rattle.hm_isa.specs.Code.{halfwords, two_halves};
 
+mod flat;
 pub mod rows;
 
 use arrayvec::ArrayVec;
+pub use flat::flat_image;
 use hm_base::OutOfMemory;
 use hm_enc16::encode16;
 use hm_enc32::encode32;

@@ -1,8 +1,7 @@
 //! The image of a text: one segment in flash, and one for each array that is given values.
 
 ghost use Rattle.std.specs.Prelude.{◌≡◌, ◌<◌, ◌≤◌, List, length, IfOk};
-ghost use Rattle.hm_base.specs.Image.{Segment, IsApart, IsImage, IsPlaced, flash_byte, flash_size, flat, word_at};
-ghost use Rattle.hm_base.specs.declared.errors.ImageErr.TheVariants as image_err;
+ghost use Rattle.hm_base.specs.Image.{Segment, IsApart, IsImage, IsPlaced, flash_byte, word_at};
 ghost use Rattle.hm_kernel_code.specs.Images.{HasItems, IsImageOf, IsMade};
 ghost use Rattle.hm_kernel_code.specs.Segments.{AllApart, AllPlaced, array_segment, with_array, with_arrays};
 ghost use Rattle.hm_kernel_instrs.specs.Ranges.{ItemsFit};
@@ -12,7 +11,7 @@ ghost use Rattle.hm_kernel_lang.specs.Texts.{IsText};
 use crate::lines::code_of;
 use crate::values::value_bytes;
 use hm_base::{Image, ImageErr, OutOfMemory};
-use hm_code_bytes::{add_code, add_word};
+use hm_code_bytes::{add_code, add_word, flat_image};
 use hm_kernel_instrs::instr_of;
 use hm_kernel_lang::machine::Item;
 use hm_kernel_lang::text::{Array, ElementType, Text};
@@ -23,14 +22,6 @@ const STACK: u32 = 0x2004_0000;
 
 /// The address of the first instruction, with the bit of Thumb code.
 const FIRST: u32 = 9;
-
-/// Why a segment is refused that has its place.
-fn memory_of(e: ImageErr) -> OutOfMemory
-    requires only { e ≡ image_err.OutOfMemory }
-{
-    let _ = e;
-    OutOfMemory
-}
 
 /// The bytes of flash that have the codes of items.
 fn flash_bytes(alloc: Global, t: ElementType, items: &[Item]) -> Result<Vec<u8>, OutOfMemory>
@@ -44,19 +35,6 @@ fn flash_bytes(alloc: Global, t: ElementType, items: &[Item]) -> Result<Vec<u8>,
         add_code(&mut bytes, &instr_of(t, *item))?;
     }
     Ok(bytes)
-}
-
-/// The image of bytes that lie in flash from 0 on.
-fn flat_image(alloc: Global, bytes: Vec<u8>) -> Result<Image, OutOfMemory>
-    requires some { 0 < length bytes.items }
-    requires few { length bytes.items ≤ flash_size }
-    ensures value { IfOk result (λ image. image ≡ flat bytes.items) }
-{
-    let mut image = Image::new(alloc);
-    match image.add(0, bytes) {
-        Ok(()) => Ok(image),
-        Err(e) => Err(memory_of(e)),
-    }
 }
 
 /// Adds the values of an array to an image, if it is given any.
@@ -76,7 +54,8 @@ fn add_array(
     let bytes = value_bytes(alloc, t, &array.values)?;
     match image.add(array.addr, bytes) {
         Ok(()) => Ok(()),
-        Err(e) => Err(memory_of(e)),
+        Err(ImageErr::OutOfMemory) => Err(OutOfMemory),
+        Err(_) => unreachable!(),
     }
 }
 

@@ -1,12 +1,11 @@
 //! The image of a soak: one segment, in flash from 0 on.
 
-ghost use Rattle.std.specs.Prelude.{◌≡◌, ◌<◌, ◌≤◌, length, IfOk};
-ghost use Rattle.hm_base.specs.Image.{flash_size, flat};
+ghost use Rattle.std.specs.Prelude.{◌≡◌, IfOk};
 ghost use Rattle.hm_soak_laws.specs.Image.{IsSoak, vectors};
 
 use crate::code::{OPERATIONS, add_instructions};
-use hm_base::{Image, ImageErr, OutOfMemory};
-use hm_code_bytes::add_word;
+use hm_base::{Image, OutOfMemory};
+use hm_code_bytes::{add_word, flat_image};
 use std::alloc::Global;
 
 /// The stack pointer at the reset.
@@ -48,20 +47,6 @@ fn vector_bytes(alloc: Global) -> Result<Vec<u8>, OutOfMemory>
         add_word(&mut bytes, word)?;
     }
     Ok(bytes)
-}
-
-/// The image of bytes that lie in flash from 0 on.
-fn flat_image(alloc: Global, bytes: Vec<u8>) -> Result<Image, OutOfMemory>
-    requires some { 0 < length bytes.items }
-    requires few { length bytes.items ≤ flash_size }
-    ensures value { IfOk result (λ image. image ≡ flat bytes.items) }
-{
-    let mut image = Image::new(alloc);
-    match image.add(0, bytes) {
-        Ok(()) => Ok(image),
-        Err(ImageErr::OutOfMemory) => Err(OutOfMemory),
-        Err(_) => unreachable!(),
-    }
 }
 
 /// The image of the soak of a number.
