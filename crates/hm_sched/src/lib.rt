@@ -17,7 +17,7 @@ use arrayvec::ArrayVec;
 pub use errors::{LineKind, SchedErr};
 use hm_base::SRAM_START;
 pub use laws::file_law;
-pub use printing::{print, print_tick};
+pub use printing::{has_irq, print, print_tick};
 pub use reading::parse;
 use std::alloc::Global;
 use std::marker::Model;
@@ -26,8 +26,9 @@ use std::marker::Model;
 pub const MOST_TICKS: u32 = 16_777_216;
 
 /// The interrupts that a format names are those below this number.
-fn most_irq(format: u32) -> u32
+pub fn most_irq(format: u32) -> u32
     ensures value { result ≡ most_irq format }
+    ensures few { result ≤ 240 }
 {
     if format == 1 { 32 } else { 240 }
 }

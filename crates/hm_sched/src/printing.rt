@@ -14,8 +14,8 @@ use hm_base::OutOfMemory;
 use hm_text_base::{decimal, hex8, text};
 use std::alloc::Global;
 
-/// Whether the interrupt of this number is among those of the words.
-fn has_irq(irq: &[u32; 8], n: u32) -> bool
+/// Whether the interrupt of this number is among those of the words: bit n % 32 of word n / 32 stands for interrupt n.
+pub fn has_irq(irq: &[u32; 8], n: u32) -> bool
     requires there { n < 256 }
     ensures value { result ≡ (number_of irq.now / 2 ^ n % 2 == 1) }
 {

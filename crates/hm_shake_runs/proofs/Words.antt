@@ -1,5 +1,5 @@
 -- The eight words of an interrupt: one bit.
-use Rattle.std.proofs.Common.{rules, ◌≡◌, ℕ, zero, suc, ◌+◌, ◌*◌, ◌/◌, ◌%◌, ◌^◌, ◌<◌, ◌≤◌, Option, Some, None, List, length, get_or, set, eqb, arith, refl, sym}
+use Rattle.std.proofs.Common.{rules, ◌≡◌, ℕ, zero, suc, ◌+◌, ◌*◌, ◌/◌, ◌%◌, ◌^◌, ◌<◌, ◌≤◌, Option, Some, None, List, length, get_or, set, arith, refl, sym}
 use Rattle.std.proofs.Common.{ap, ◌∙◌}
 use Rattle.std.specs.List.{All}
 use Rattle.std.specs.Prelude.{IfSome}
@@ -8,7 +8,7 @@ use Rattle.std.proofs.lemmas.List.Elements.{All-cons, All-nil, All-replicate, Al
 use Rattle.std.proofs.lemmas.Nat.{one_shl, pow_below}
 use Rattle.hm_sched.specs.Schedule.{IsLetter, no_irq, older_letter}
 use Rattle.hm_sched.specs.Words.{number_of, words_of}
-use Rattle.hm_sched.proofs.WordLaws.{IsWord, bit_of, bit_set, none_fits, number-back, words-back}
+use Rattle.hm_sched.proofs.WordLaws.{IsWord, bit_set, none_fits, number-back, words-back}
 use Rattle.hm_shake_runs.specs.Stretches.{irq_words, steps}
 
 -- no words but this one, which has one bit
@@ -37,10 +37,6 @@ bit_is_words n lt =
     ap (λ (x : ℕ). set no_irq (n / 32) x) (sym (in_word n lt))
     ∙ sym (words-back 8 (one_bit n) (length-set no_irq (n / 32) _) (words_fit n lt))
     ∙ ap (words_of 8) (number_of_bit n lt)
-
--- an interrupt is one bit of the words
-pub word_names : (ws : List ℕ) (n a b : ℕ) → a ≡ n → b ≡ n → All IsWord ws → eqb (get_or ws (a / 32) 0 / 2 ^ (b % 32) % 2) 1 ≡ eqb (number_of ws / 2 ^ n % 2) 1
-word_names ws n a b e f each = rw (e, f) (ap (λ (x : ℕ). eqb x 1) (bit_of ws n each))
 
 -- the words of an interrupt that a format names
 pub irq_named : (most : ℕ) (o : Option ℕ) → most ≤ 256 → IfSome o (λ n. n < most) → number_of (irq_words o) < 2 ^ most

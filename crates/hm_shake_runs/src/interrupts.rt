@@ -3,32 +3,19 @@
 ghost use Rattle.std.specs.Prelude.{◌≡◌, ◌<◌, ◌≤◌, [], IfOk, length};
 ghost use Rattle.std.specs.List.{All};
 ghost use Rattle.hm_sched.specs.Schedule.{most_irq};
-ghost use Rattle.hm_shake_runs.specs.Heads.{all_or, interrupts_of, is_named, named, words_name};
+ghost use Rattle.hm_shake_runs.specs.Heads.{all_or, interrupts_of, is_named, named};
 
 use hm_base::OutOfMemory;
-use hm_sched::Schedule;
+use hm_sched::{Schedule, has_irq, most_irq};
 use std::alloc::Global;
 
-/// How many interrupts a format names: those below this number.
-fn interrupts(format: u32) -> u8
-    ensures value { result ≡ most_irq format }
-{
-    if format == 1 { 32 } else { 240 }
-}
-
-/// Whether the words of a line name an interrupt.
-fn words_name(irq: &[u32; 8], n: u8) -> bool
-    ensures value { result ≡ words_name n irq.now }
-{
-    (irq[usize::from(n) / 32] >> (u32::from(n) % 32)) % 2 == 1
-}
-
 /// Whether a line of a schedule names an interrupt.
-fn is_named(s: &Schedule, n: u8) -> bool
+fn is_named(s: &Schedule, n: u32) -> bool
+    requires there { n < 256 }
     ensures value { result ≡ is_named s.now.lines n }
 {
     for k in 0..s.lines() {
-        if words_name(&s.line(k).irq, n) {
+        if has_irq(&s.line(k).irq, n) {
             return true;
         }
     }
@@ -40,9 +27,9 @@ fn named(alloc: Global, s: &Schedule) -> Result<Vec<u8>, OutOfMemory>
     ensures value { IfOk result (λ irqs. irqs.items ≡ named s.now) }
 {
     let mut irqs = Vec::new(alloc);
-    for n in 0..interrupts(s.format()) {
+    for n in 0..most_irq(s.format()) {
         if is_named(s, n) {
-            irqs.push(n)?;
+            irqs.push(n as u8)?;
         }
     }
     Ok(irqs)
@@ -53,8 +40,8 @@ fn all(alloc: Global, format: u32) -> Result<Vec<u8>, OutOfMemory>
     ensures value { IfOk result (λ irqs. irqs.items ≡ all_or format []) }
 {
     let mut irqs = Vec::new(alloc);
-    for n in 0..interrupts(format) {
-        irqs.push(n)?;
+    for n in 0..most_irq(format) {
+        irqs.push(n as u8)?;
     }
     Ok(irqs)
 }

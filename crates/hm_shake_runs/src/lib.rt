@@ -14,7 +14,6 @@ mod stretches;
 mod whole;
 
 pub use cuts::{cut, without};
-pub use draws::{first, part};
 pub use found::{Found, Tally};
 pub use head::Head;
 pub use interrupts::interrupts_of;

@@ -4,12 +4,12 @@ use Rattle.hm_sched.specs.Schedule.{line_of}
 use Rattle.hm_shake_runs.proofs.Turns.{names_it, names_not}
 use Rattle.hm_shake_runs.proofs.interrupts.is_named.Goals as goal
 
-pub returns-then-words_name : goal.returns-then-words_name
-returns-then-words_name c =
+pub returns-then-has_irq : goal.returns-then-has_irq
+returns-then-has_irq c =
     let line = line_of c.line.result.now in
     let is = get_or_from_slice_get c.args.s.now.lines c.loop-k.k line line c.line.ensures.value in
     record {
-      value = sym (names_it c.args.s.now.lines c.loop-k.k c.args.n line (search rules) is (sym c.words_name.ensures.value ∙ c.if-words_name.true))
+      value = sym (names_it c.args.s.now.lines c.loop-k.k c.args.n line (search rules) is (sym c.has_irq.ensures.value ∙ c.if-has_irq.true))
           ∙ c.loop-k.invariant;
     }
 
@@ -17,4 +17,4 @@ pub loop-k-preserved : goal.loop-k-preserved
 loop-k-preserved c =
     let line = line_of c.line.result.now in
     let is = get_or_from_slice_get c.args.s.now.lines c.loop-k.k line line c.line.ensures.value in
-    sym (names_not c.args.s.now.lines c.loop-k.k c.args.n line (search rules) is (sym c.words_name.ensures.value ∙ c.if-words_name.false)) ∙ c.loop-k.invariant
+    sym (names_not c.args.s.now.lines c.loop-k.k c.args.n line (search rules) is (sym c.has_irq.ensures.value ∙ c.if-has_irq.false)) ∙ c.loop-k.invariant

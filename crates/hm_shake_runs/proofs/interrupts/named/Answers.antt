@@ -9,7 +9,7 @@ pub loop-n-preserved : goal.loop-n-preserved
 loop-n-preserved c =
     let most = most_irq c.args.s.now.format in
     let n = c.loop-n.n in
-    let end : c.interrupts-n-end.result ≡ most = c.interrupts-n-end.ensures.value ∙ ap most_irq c.format.ensures.value in
+    let end : c.most_irq-n-end.result ≡ most = c.most_irq-n-end.ensures.value ∙ ap most_irq c.format.ensures.value in
     let lt : n < most = omega arith in
     elim c.if-is_named.branch [
       | then-is_named+in_ok-push w ↦
