@@ -21,7 +21,7 @@ use hm_words::{Command, parse};
 use hm_work::{Finish, Output, Refusal, Stop, perform};
 use std::alloc::Global;
 
-/// The status of a host's error.
+/// The status of a host's error, of which `TooLarge` comes of reads alone.
 pub fn failure(e: HostErr) -> Status
     ensures value { result ≡ failure_of e }
 {
@@ -108,10 +108,8 @@ pub fn conclude<H: Host>(alloc: Global, outcome: Result<Finish<'_>, Stop>, host:
             };
             carry_out(alloc, status, &finish.file, &finish.text, host)
         }
-        Err(stop) => match stop {
-            Stop::Refused(why) => refuse(alloc, why, host),
-            Stop::NoMemory => Status::NoMemory,
-        },
+        Err(Stop::Refused(why)) => refuse(alloc, why, host),
+        Err(Stop::NoMemory) => Status::NoMemory,
     }
 }
 
