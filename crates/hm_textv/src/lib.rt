@@ -26,19 +26,14 @@ pub fn print_v(v: &Vector) -> ArrayString<96>
     row_text(v).print()
 }
 
-/// The last code of 32 bits.
-const LAST: u64 = 0xffff_ffff;
-
 /// The row that has these tokens: that of the code that they are given, if it has them.
 fn row_with(tokens: &[Token<'_>]) -> Option<Vector>
     ensures found { IfSome result (λ v. HasTokens v (map tok tokens.now)) }
     ensures only { (v : Vector) → HasTokens v (map tok tokens.now) → result ≡ Some v }
 {
-    let code = code_in(tokens)?;
-    if code > LAST {
-        return None;
-    }
-    let v = decodev(code as u32)?;
+    let given = code_in(tokens)?;
+    let code = u32::try_from(given).ok()?;
+    let v = decodev(code)?;
     if is_text_of(&v, tokens) {
         return Some(v);
     }
