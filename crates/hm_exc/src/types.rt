@@ -7,13 +7,13 @@ use hm_regs::Regs;
 /// What a handler has to leave as it was.
 #[derive(Clone, Copy, Debug, PartialEq, Eq)]
 pub enum Slot {
-    /// A general-purpose register or a word of a vector register.
+    /// SP, one of R4 to R11, or a word of one of Q4 to Q7.
     Reg(Place),
-    /// PRIMASK.PM.
+    /// PRIMASK, as a truth value.
     Primask,
     /// PSP, the process stack pointer.
     Psp,
-    /// BASEPRI.PRI.
+    /// BASEPRI.
     Basepri,
 }
 

@@ -30,7 +30,7 @@ pub enum Cause {
 pub enum Offence {
     /// Its return differs from its entry.
     Left(Broken),
-    /// It stored at this address, where it may not.
+    /// A store of it, from this address on, has a byte where it may not store, and is not done.
     Store { addr: u32 },
     /// It had a breakpoint, at this address.
     Call { pc: u32 },
@@ -73,7 +73,7 @@ pub enum Outcome {
         tick: u32,
         what: Offence,
     },
-    /// The thread's instruction at `pc` loads, from `addr` on, a byte that an entry or a handler wrote last.
+    /// The thread's instruction at `pc` reads, from `addr` on, a byte that an entry or a handler wrote last.
     TaintedRead {
         tick: u32,
         pc: u32,
